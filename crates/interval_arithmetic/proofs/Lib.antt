@@ -1,0 +1,5 @@
+pub mod Meets
+pub mod Plain
+pub mod Pairs
+pub mod Greaters
+pub mod Lifts
