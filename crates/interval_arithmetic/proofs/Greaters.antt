@@ -1,16 +1,17 @@
 -- What `greater` leaves: within the two ranges, and with every two values of which the first exceeds the second. Assumes nothing.
 use mathlib.Core.Path.{_≡_, refl, sym, _∙_, ap, subst}
-use mathlib.Core.Bool.{Bool, true, false, cond}
+use mathlib.Core.Bool.{Bool, true, false, cond, not}
 use Rattle.std.specs.declared.option.Option.{Option}
 use Rattle.std.specs.declared.option.Option.the-variants.{Some, None}
 use Rattle.std.specs.Options.{mapped}
-use Rattle.std.proofs.shelf.Tests.{both-ways}
+use Rattle.std.proofs.shelf.Tests.{both-ways, false≢true}
 use Rattle.interval_arithmetic.specs.Model.{Order, Operations}
+use Rattle.interval_arithmetic.specs.Compare.{Exceeds}
 use Rattle.interval_arithmetic.specs.Sound.{OfTwo}
 use Rattle.interval_arithmetic.specs.Ends.{Above, Below, Within, Inside, end-is, uncrossed}
 use Rattle.interval_arithmetic.specs.Laws.{OrderLaws, Laws, Made, Next, Previous}
 use Rattle.interval_arithmetic.proofs.Pairs as pair
-use Rattle.interval_arithmetic.specs.Greater.{Exceeds, NarrowsGreater, step-up, step-down, raised, lowered, pair-up, with-end, touching, apart, greater-by, greater}
+use Rattle.interval_arithmetic.specs.Greater.{NarrowsGreater, step-up, step-down, raised, lowered, pair-up, with-end, touching, apart, greater-by, greater}
 use Rattle.interval_arithmetic.proofs.Meets.{one-sort, some-inj, none-some, fair-parts, fair-from, make-made, lower-is, upper-is, between, made-within}
 
 -- ends that a value lies between make a range that holds it
@@ -293,9 +294,13 @@ module _ {V R S L : Type 0} {o : Order V R S} {m : Operations V R S L} (order : 
 
   -- ---- of any two ranges
 
-  over : (strict : Bool) (x y : V) → Exceeds o m strict x y → Over strict x y
-  over true x y e = e .above
-  over false x y e = e .above
+  over : (strict : Bool) (x y : V) → Exceeds o strict x y → Over strict x y
+  over true x y e = not-true (o .leq x y) (e .over)
+    where
+      not-true : (t : Bool) → not t ≡ true → t ≡ false
+      not-true true h = absurd (false≢true h)
+      not-true false h = refl
+  over false x y e = e .over
 
   greater-narrows : (strict : Bool) (l r : R) → NarrowsGreater o m strict l r (greater o m strict l r)
   greater-narrows strict l r = by-same (o .same (o .sort l) (o .sort r)) refl
@@ -303,10 +308,10 @@ module _ {V R S L : Type 0} {o : Order V R S} {m : Operations V R S L} (order : 
       by-same : (t : Bool) → o .same (o .sort l) (o .sort r) ≡ t → NarrowsGreater o m strict l r (cond t (greater-by o m strict l r (o .upper l) (o .lower r)) None)
       by-same true e =
           let es = order .same-is (o .sort l) (o .sort r) e in
-          pair.narrows-two (Within o) (Inside o) l r (OfTwo (Exceeds o m strict)) (greater-by o m strict l r (o .upper l) (o .lower r)) (by-ends-inside l r es strict)
+          pair.narrows-two (Within o) (Inside o) l r (OfTwo (Exceeds o strict)) (greater-by o m strict l r (o .upper l) (o .lower r)) (by-ends-inside l r es strict)
           (λ x y wl wr gt. by-ends-keeps l r es strict x y wl wr (over strict x y gt))
       by-same false e =
-          pair.narrows-two (Within o) (Inside o) l r (OfTwo (Exceeds o m strict)) None tt
+          pair.narrows-two (Within o) (Inside o) l r (OfTwo (Exceeds o strict)) None tt
           (λ x y wl wr gt.
           let es : o .sort l ≡ o .sort r = one-sort order (o .sort l) (gt .sort) x (wl .of) (gt .left) ∙ one-sort order (gt .sort) (o .sort r) y (gt .right) (wr .of) in
           both-ways _ e (subst (λ t. o .same (o .sort l) t ≡ true) es (order .same-self (o .sort l))))

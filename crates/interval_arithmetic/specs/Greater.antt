@@ -7,6 +7,7 @@ use Rattle.std.specs.declared.option.Option.the-variants.{Some, None}
 use Rattle.std.specs.Options.{mapped}
 use Rattle.interval_arithmetic.specs.Model.{Order, Operations}
 use Rattle.interval_arithmetic.specs.Ends.{Within, Inside}
+use Rattle.interval_arithmetic.specs.Compare.{Exceeds}
 use Rattle.interval_arithmetic.specs.Sound.{OfTwo, both, Narrows}
 
 module _ {V R S L : Type 0} (o : Order V R S) (m : Operations V R S L) where
@@ -58,13 +59,6 @@ module _ {V R S L : Type 0} (o : Order V R S) (m : Operations V R S L) where
   abbrev pub greater : Bool → R → R → Option (R × R)
   greater strict l r = cond (o .same (o .sort l) (o .sort r)) (greater-by strict l r (o .upper l) (o .lower r)) None
 
-  -- of two values of one sort, the first is above the second, or at it if the comparison is not strict
-  pub record Exceeds (strict : Bool) (x y : V) : Type 0 where
-    pub sort : S
-    pub left : o .is sort x ≡ true
-    pub right : o .is sort y ≡ true
-    pub above : cond strict (o .leq x y ≡ false) (o .leq y x ≡ true)
-
   -- the pair lies within the two ranges and keeps every two values of which the first exceeds the second; none is left only if there are no such two
   abbrev pub NarrowsGreater : Bool → R → R → Option (R × R) → Type 0
-  NarrowsGreater strict l r p = Narrows (Within o) (Inside o) (OfTwo (Exceeds strict)) (l ∷ r ∷ []) (mapped both p)
+  NarrowsGreater strict l r p = Narrows (Within o) (Inside o) (OfTwo (Exceeds o strict)) (l ∷ r ∷ []) (mapped both p)

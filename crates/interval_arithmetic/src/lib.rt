@@ -8,6 +8,7 @@
 // questions); `intersect`, `contains` and `satisfy_greater` are written and proved once, for every kind.
 // Each answer is pinned to one definition and says what it means for the values that the ranges hold.
 // The definitions stand in specs/: Refusals, Truths, Model, Ends, Laws, Sound, Greater and Ranges.
+pub mod compare;
 pub mod ends;
 pub mod greater;
 pub mod kind;
