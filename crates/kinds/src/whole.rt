@@ -58,6 +58,16 @@ fn negate_end(a: Option<i64>) -> Option<i64>
     negative(a?)
 }
 
+// The range with these ends, unless they are crossed.
+fn between(low: Option<i64>, high: Option<i64>) -> Option<WholeRange>
+    ensures { λ r. ⌜ r ≡ make-of low high ⌝ }
+{
+    match (low, high) {
+        (Some(a), Some(b)) if b < a => None,
+        _ => Some(WholeRange { low, high }),
+    }
+}
+
 // Hands on what was made of two ends, with what it means for the numbers.
 fn spanning(
     low: Option<i64>,
@@ -78,12 +88,12 @@ impl WholeRange {
         ensures spans { λ r. ⌜ Spans low high r ⌝ }
         ensures refuses { λ r. ⌜ Refuses 1 0 r ⌝ }
     {
-        let made = match (low, high) {
-            (Some(a), Some(b)) if b < a => Err(Refusal {
+        let made = match between(low, high) {
+            Some(range) => Ok(range),
+            None => Err(Refusal {
                 ground: Ground::CrossedEnds,
                 position: 0,
             }),
-            _ => Ok(WholeRange { low, high }),
         };
         spanning(low, high, made)
     }
@@ -159,7 +169,7 @@ pub impl Ranges for WholeRange as WholeRanges {
     fn make(_s: WholeSort, low: Option<i64>, high: Option<i64>) -> Option<WholeRange>
         ensures { λ r. ⌜ r ≡ make-of low high ⌝ }
     {
-        WholeRange::try_new(low, high).ok()
+        between(low, high)
     }
 }
 
