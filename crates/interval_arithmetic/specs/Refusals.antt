@@ -1,8 +1,9 @@
 -- The grounds for refusal: their numbers, and what is said of each. Assumes nothing.
 use mathlib.Core.Path.{_≡_}
-use mathlib.Core.List.{List}
+use mathlib.Core.List.{List, _++_}
 use Prim.Native.Nat.{ℕ}
 use lib.Chars.{codes}
+use Rattle.std.specs.Written.{decimal}
 use Rattle.std.specs.declared.result.Result.{Result}
 use Rattle.std.specs.declared.result.Result.the-variants.{Ok, Err}
 use Rattle.interval_arithmetic.specs.declared.refusal.Refusal.{Refusal}
@@ -51,3 +52,7 @@ message ListTooShort = codes "a list that was lent is too short"
 message NoSuchNode = codes "no node present has this number"
 message OtherSort = codes "the range has another sort than its node"
 message TrueDisjunction = codes "a disjunction is TRUE: neither side can be narrowed alone"
+
+-- what is printed of a refusal
+abbrev pub refusal-text : Refusal → List ℕ
+refusal-text r = codes "refusal " ++ (decimal (number (r .ground)) ++ (codes " at " ++ (decimal (r .position) ++ (codes ": " ++ message (r .ground)))))

@@ -5,7 +5,7 @@ use crate::kind::Ranges;
 use crate::truth::Truth;
 
 // The comparisons of two numbers of one sort.
-#[derive(Clone, Copy, Debug, PartialEq, Eq)]
+#[derive(Clone, Copy)]
 pub enum Comparison {
     Gt,
     GtEq,

@@ -4,7 +4,7 @@ ghost use Rattle.interval_arithmetic.specs.Model.{Order, Operations};
 ghost use Rattle.interval_arithmetic.specs.Laws.{OrderLaws, Laws};
 
 // The operations on two numbers.
-#[derive(Clone, Copy, Debug, PartialEq, Eq)]
+#[derive(Clone, Copy)]
 pub enum Arithmetic {
     Plus,
     Minus,

@@ -8,7 +8,7 @@ use crate::kind::Ranges;
 use crate::truth::Truth;
 
 // The sort of a range, a column or a literal: Boolean, or a sort of the kind.
-#[derive(Clone, Copy, Debug, PartialEq, Eq)]
+#[derive(Clone, Copy)]
 pub enum DataType<S> {
     Boolean,
     Number(S),

@@ -1,6 +1,7 @@
 // Why a call refuses, and where.
 ghost use mathlib.Core.Path.{_≡_};
-ghost use Rattle.interval_arithmetic.specs.Refusals.{number, message};
+ghost use Rattle.interval_arithmetic.specs.Refusals.{number, message, refusal-text};
+ghost use Rattle.std.specs.declared.option.Option.the-variants.{Some};
 use std::error::Error;
 use std::fmt;
 
@@ -71,7 +72,7 @@ impl Ground {
     }
 
     // What is wrong, for a person to act on.
-    pub fn message(self) -> &'static str
+    fn message(self) -> &'static str
         ensures { λ r. ⌜ now r ≡ message self ⌝ }
     {
         match self {
@@ -106,8 +107,10 @@ impl Refusal {
 }
 
 pub impl fmt::Display for Refusal as RefusalDisplay {
+    ghost shown = { λ r. Some (refusal-text r) };
+
     fn fmt<W: fmt::Write>(&self, f: &mut fmt::Formatter<W>) -> fmt::Result {
-        let number = self.ground.number();
+        let number = self.number();
         let position = self.position;
         let message = self.ground.message();
         write!(f, "refusal {number} at {position}: {message}")

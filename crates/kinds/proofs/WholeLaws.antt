@@ -14,7 +14,7 @@ use Rattle.std.specs.Options.{isSome}
 use Rattle.interval_arithmetic.specs.declared.kind.Arithmetic.{Arithmetic}
 use Rattle.interval_arithmetic.specs.declared.kind.Arithmetic.the-variants.{Plus, Minus}
 use Rattle.interval_arithmetic.specs.Ends.{Above, Below, Within, One, Inside, end-is, meet}
-use Rattle.interval_arithmetic.specs.Laws.{Laws, Next, Previous, Holds, Counted}
+use Rattle.interval_arithmetic.specs.Laws.{Laws, Next, Previous, Numbered, Counted}
 use Rattle.interval_arithmetic.specs.Sound.{of-two, Yields}
 use Rattle.interval_arithmetic.proofs.Pairs.{Keeps, PairInside, covers-one, covers-two, narrows-two}
 use Rattle.interval_arithmetic.proofs.Meets.{fair-from, lower-is, upper-is, meet-keeps, meet-right, ends-ordered}
@@ -165,7 +165,7 @@ previous-pick : (s : WholeSort) (a : ℤ) (t : Bool) → inside (a -ℤ pos 1) �
 previous-pick s a true e i = (e, Z.previous-smaller a, λ b p h. Z.previous-greatest a b h)
 previous-pick s a false e i = λ b p. Z.previous-none a b i e p
 
-holds : (r : WholeRange) (a b : ℤ) → lower-of r ≡ Some a → upper-of r ≡ Some b → Holds whole-order r (suc (natAbs (b -ℤ a)))
+holds : (r : WholeRange) (a b : ℤ) → lower-of r ≡ Some a → upper-of r ≡ Some b → Numbered whole-order r (suc (natAbs (b -ℤ a)))
 holds r a b el eu =
     let ia : inside a ≡ true = subst (λ e. end-is inside e ≡ true) el (lower-is order-laws r) in
     let ib : inside b ≡ true = subst (λ e. end-is inside e ≡ true) eu (upper-is order-laws r) in
