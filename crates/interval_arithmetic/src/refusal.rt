@@ -1,6 +1,6 @@
 // Why a call refuses, and where.
 ghost use mathlib.Core.Path.{_≡_};
-ghost use Rattle.interval_arithmetic.specs.Refusals.{number, message, refusal-text};
+ghost use Rattle.interval_arithmetic.specs.Refusals.{number, refusal, message, refusal-text};
 ghost use Rattle.std.specs.declared.option.Option.the-variants.{Some};
 use std::error::Error;
 use std::fmt;
@@ -48,6 +48,16 @@ pub struct Refusal {
 }
 
 impl Ground {
+    // The refusal on this ground, at a position.
+    pub fn at(self, position: usize) -> Refusal
+        ensures { λ r. ⌜ r ≡ refusal self position ⌝ }
+    {
+        Refusal {
+            ground: self,
+            position,
+        }
+    }
+
     // The number by which the ground is known, 1 to 15.
     pub fn number(self) -> u8
         ensures { λ r. ⌜ r ≡ number self ⌝ }

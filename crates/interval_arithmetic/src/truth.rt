@@ -26,10 +26,7 @@ impl Truth {
             (true, true) => Ok(Truth::True),
             (false, false) => Ok(Truth::False),
             (false, true) => Ok(Truth::Unsure),
-            (true, false) => Err(Refusal {
-                ground: Ground::CrossedEnds,
-                position: 0,
-            }),
+            (true, false) => Err(Ground::CrossedEnds.at(0)),
         }
     }
 

@@ -90,10 +90,7 @@ impl WholeRange {
     {
         let made = match between(low, high) {
             Some(range) => Ok(range),
-            None => Err(Refusal {
-                ground: Ground::CrossedEnds,
-                position: 0,
-            }),
+            None => Err(Ground::CrossedEnds.at(0)),
         };
         spanning(low, high, made)
     }
