@@ -20,7 +20,7 @@ use Rattle.kinds.specs.declared.whole.WholeRange.{WholeRange}
 use Rattle.kinds.specs.declared.whole.WholeSort.{WholeSort}
 use Rattle.kinds.specs.declared.whole.WholeSort.the-variants.{Whole}
 
--- does the number fit 64 bits?
+-- does the number fit 64 bits: is it from -2^63 to 2^63 - 1? (the magnitude of -1 is 0)
 abbrev pub inside : ℤ → Bool
 inside z = ltb (mag z) (2 ^ 63)
 
@@ -28,6 +28,7 @@ inside z = ltb (mag z) (2 ^ 63)
 abbrev pub fit64 : ℤ → Option ℤ
 fit64 = fit inside
 
+-- a range as the struct keeps it, and its ends as they are read
 abbrev pub range : Option ℤ → Option ℤ → WholeRange
 range l u = record { low = l; high = u }
 
@@ -37,6 +38,7 @@ lower-of r = low-end leZ (kept inside (r .low)) (kept inside (r .high))
 abbrev pub upper-of : WholeRange → Option ℤ
 upper-of r = high-end leZ (kept inside (r .low)) (kept inside (r .high))
 
+-- the range with these ends, unless they are crossed
 abbrev pub make-of : Option ℤ → Option ℤ → Option WholeRange
 make-of l u = cond (fair inside leZ l u) (Some (range l u)) None
 
@@ -60,7 +62,7 @@ whole-order = record {
   make = λ s. make-of;
 }
 
--- a range that was made holds the numbers of 64 bits from l to u; it is refused only where they are crossed
+-- a range that was made holds the numbers of 64 bits from l to u; it is refused only where they are crossed (an i64 always fits)
 abbrev pub Spans : Option ℤ → Option ℤ → Result WholeRange Refusal → Type 0
 Spans l u (Ok r) = ((z : ℤ) → Within whole-order r z → Above whole-order l z × Below whole-order u z) × ((z : ℤ) → inside z ≡ true → Above whole-order l z → Below whole-order u z → Within whole-order r z)
 Spans l u (Err e) = fair inside leZ l u ≡ false
