@@ -217,3 +217,22 @@ module _ {V R S : Type 0} {o : Order V R S} (laws : OrderLaws o) where
   ends-ordered r a b el eu =
       let h = fair-parts (o .is (o .sort r)) (o .leq) (o .lower r) (o .upper r) (laws .ends r) .2 in
       subst (λ e. uncrossed (o .leq) (Some a) e ≡ true) eu (subst (λ e. uncrossed (o .leq) e (o .upper r) ≡ true) el h)
+
+  -- an end that is a value is held
+  pub lower-within : (r : R) (a : V) → o .lower r ≡ Some a → Within o r a
+  lower-within r a e =
+      let i : o .is (o .sort r) a ≡ true = subst (λ x. end-is (o .is (o .sort r)) x ≡ true) e (lower-is r) in
+      record { of = i; above = subst (λ x. Above o x a) (sym e) (laws .reflexive (o .sort r) a i); below = under (o .upper r) refl }
+    where
+      under : (u : Option V) → o .upper r ≡ u → Below o u a
+      under None f = tt
+      under (Some b) f = ends-ordered r a b e f
+
+  pub upper-within : (r : R) (b : V) → o .upper r ≡ Some b → Within o r b
+  upper-within r b e =
+      let i : o .is (o .sort r) b ≡ true = subst (λ x. end-is (o .is (o .sort r)) x ≡ true) e (upper-is r) in
+      record { of = i; above = over (o .lower r) refl; below = subst (λ x. Below o x b) (sym e) (laws .reflexive (o .sort r) b i) }
+    where
+      over : (l : Option V) → o .lower r ≡ l → Above o l b
+      over None f = tt
+      over (Some a) f = ends-ordered r a b f e

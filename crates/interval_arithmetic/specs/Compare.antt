@@ -3,6 +3,7 @@ use mathlib.Core.Path.{_≡_}
 use mathlib.Core.Bool.{Bool, true, false, cond, not, _&&_, _||_}
 use Rattle.std.specs.declared.option.Option.{Option}
 use Rattle.std.specs.declared.option.Option.the-variants.{Some, None}
+use Rattle.std.specs.Options.{isSome}
 use Rattle.interval_arithmetic.specs.declared.compare.Comparison.{Comparison}
 use Rattle.interval_arithmetic.specs.declared.compare.Comparison.the-variants.{Gt, GtEq, Lt, LtEq, Eq}
 use Rattle.interval_arithmetic.specs.declared.truth.Truth.{Truth}
@@ -56,8 +57,20 @@ module _ {V R S : Type 0} (o : Order V R S) where
   abbrev pub compare-of : Comparison → R → R → Truth
   compare-of c a b = cond (o .same (o .sort a) (o .sort b)) (compare-ends c a b) Unsure
 
-  -- TRUE only if it holds of every two values in the ranges, FALSE only if of none
+  -- some two values in the ranges are so related
+  pub record SomeTwo (a b : R) (related : V → V → Type 0) : Type 0 where
+    pub left : V
+    pub right : V
+    pub left-held : Within o a left
+    pub right-held : Within o b right
+    pub relates : related left right
+
+  -- both ends are values
+  abbrev pub Bounded : R → Type 0
+  Bounded r = (isSome (o .lower r) ≡ true) × (isSome (o .upper r) ≡ true)
+
+  -- TRUE only if it holds of every two values in the ranges, FALSE only if of none; between ranges of one sort whose ends are values, UNSURE only if it holds of some two and not of some two
   abbrev pub Compared : Comparison → R → R → Truth → Type 0
   Compared c a b True = (x y : V) → Within o a x → Within o b y → Compares c x y
   Compared c a b False = (x y : V) → Within o a x → Within o b y → Compares c x y → ⊥
-  Compared c a b Unsure = Unit {0}
+  Compared c a b Unsure = o .sort a ≡ o .sort b → Bounded a → Bounded b → SomeTwo a b (Compares c) × SomeTwo a b (λ x y. Compares c x y → ⊥)
