@@ -3,6 +3,4 @@
 //     whole   64-bit whole numbers
 //
 // Each is proved against the laws once; whatever is written over kinds then holds of it.
-#[cfg(test)]
-mod tests;
 pub mod whole;
