@@ -5,7 +5,7 @@ use crate::kind::Ranges;
 use crate::truth::Truth;
 
 // The comparisons of two numbers of one sort.
-#[derive(Clone, Copy)]
+#[derive(Clone, Copy, PartialEq, Eq)]
 pub enum Comparison {
     Gt,
     GtEq,

@@ -9,7 +9,7 @@ use Rattle.interval_arithmetic.specs.declared.compare.Comparison.{Comparison}
 use Rattle.interval_arithmetic.specs.declared.truth.Truth.{Truth}
 use Rattle.interval_arithmetic.specs.declared.truth.Truth.the-variants.{True, False, Unsure}
 use Rattle.interval_arithmetic.specs.Ends.{Within}
-use Rattle.interval_arithmetic.specs.Compare.{Compares, compare-of}
+use Rattle.interval_arithmetic.specs.Compare.{Bounded, Compares, compare-of}
 use Rattle.kinds.specs.declared.whole.WholeRange.{WholeRange}
 use Rattle.kinds.specs.Whole.{range, whole-order}
 use Rattle.segments.specs.declared.decision.Decision.{Decision}
@@ -25,10 +25,10 @@ decision-of Unsure = Read
 abbrev pub decide-of : Comparison → WholeRange → ℤ → Decision
 decide-of c b v = decision-of (compare-of whole-order c b (range (Some v) (Some v)))
 
--- Skip only if no number within the bounds compares so with v, Whole only if every one does
+-- Skip only if no number within the bounds compares so with v, Whole only if every one does; Read between ends that are numbers only if some do and some do not
 abbrev pub Decides : Comparison → WholeRange → ℤ → Decision → Type 0
 Decides c b v Skip = (x : ℤ) → Within whole-order b x → Compares whole-order c x v → ⊥
-Decides c b v Read = Unit {0}
+Decides c b v Read = Bounded whole-order b → ((x : ℤ) × Within whole-order b x × Compares whole-order c x v) × ((x : ℤ) × Within whole-order b x × (Compares whole-order c x v → ⊥))
 Decides c b v Whole = (x : ℤ) → Within whole-order b x → Compares whole-order c x v
 
 -- the word that is printed
