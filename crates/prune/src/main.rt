@@ -29,10 +29,11 @@ impl From<io::Error> for Failed as FailedFromIo {
     }
 }
 
-// The decisions so far, and how many lines were bad.
+// The decisions so far, whether a segment has the filter's column, and how many lines were bad.
 #[derive(Clone, Copy)]
 struct Report {
     tally: Tally,
+    known: bool,
     bad: u64,
 }
 
@@ -80,14 +81,15 @@ fn decide_line(
             println!(rt, "{word:<5} {name}")?;
             Ok(Report {
                 tally: report.tally.counting(decision),
+                known: report.known || segment.known,
                 bad: report.bad,
             })
         }
         Err(fault) => {
             eprintln!(rt, "line {number}: {fault}")?;
             Ok(Report {
-                tally: report.tally,
                 bad: report.bad.saturating_add(1),
+                ..report
             })
         }
     }
@@ -104,8 +106,8 @@ fn tell_unread(
     if e.kind() == ErrorKind::InvalidData {
         eprintln!(rt, "line {number}: expected text in UTF-8")?;
         return Ok(Report {
-            tally: report.tally,
             bad: report.bad.saturating_add(1),
+            ..report
         });
     }
     eprintln!(rt, "prune: cannot read line {number} of {name}: {e}")?;
@@ -125,6 +127,7 @@ fn decide_all<R: Read + Drop>(
             to_read: 0,
             whole: 0,
         },
+        known: false,
         bad: 0,
     };
     let mut number = 0u64;
@@ -138,8 +141,17 @@ fn decide_all<R: Read + Drop>(
     Ok(report)
 }
 
+// Says so where no segment has the filter's column: it may be misspelt.
+fn tell_unknown(rt: &LibcRuntime, column: &str, report: Report) -> io::Result<()> {
+    if !report.known {
+        eprintln!(rt, "prune: no segment has bounds for the column {column}")?;
+    }
+    Ok(())
+}
+
 // Prints the summary; fails where a line was bad.
-fn summarize(rt: &LibcRuntime, report: Report) -> Result<(), Failed> {
+fn summarize(rt: &LibcRuntime, filter: Filter<'_>, report: Report) -> Result<(), Failed> {
+    tell_unknown(rt, filter.column, report)?;
     let tally = report.tally;
     let bad = report.bad;
     if bad == 0 {
@@ -161,12 +173,12 @@ fn cannot_open(rt: &LibcRuntime, path: &str, e: io::Error) -> Failed {
 fn prune_by(rt: &LibcRuntime, filter: Filter<'_>, path: &str) -> Result<(), Failed> {
     if path == "-" {
         let report = decide_all(rt, filter, BufReader::new(rt.stdin()), "standard input")?;
-        return summarize(rt, report);
+        return summarize(rt, filter, report);
     }
     match File::open(rt, path) {
         Ok(file) => {
             let report = decide_all(rt, filter, BufReader::new(file), path)?;
-            summarize(rt, report)
+            summarize(rt, filter, report)
         }
         Err(e) => Err(cannot_open(rt, path, e)),
     }

@@ -15,7 +15,7 @@ use Rattle.std.specs.declared.option.Option.{Option}
 use Rattle.std.specs.declared.option.Option.the-variants.{Some, None}
 use Rattle.std.specs.declared.result.Result.{Result}
 use Rattle.std.specs.declared.result.Result.the-variants.{Ok, Err}
-use Rattle.std.specs.Options.{valueOr}
+use Rattle.std.specs.Options.{isSome, valueOr}
 use Rattle.std.specs.Pieces.{Lacks}
 use Rattle.std.specs.Reads.{Numeral, afterSign, signedValue}
 use Rattle.std.specs.Words.{white, dark, Without, Opens}
@@ -113,9 +113,9 @@ abbrev pub Gives : List ℕ → List (List ℕ) → Option WholeRange → Type 0
 Gives name [] o = o ≡ None
 Gives name (w ∷ ws) o = (Other name w × Gives name ws o) ⊎ ((r : WholeRange) × (o ≡ Some r) × ColumnIs w name r × Each (Other name) ws)
 
--- the bounds that the words of bs give the column were read, open where they give none; or the words are not such columns
-abbrev pub BoundsRead : {E : Type 0} → List ℕ → List ℕ → Result WholeRange E → Type 0
-BoundsRead bs column (Ok b) = (ws : List (List ℕ)) × (o : Option WholeRange) × Words bs ws × Gives column ws o × (b ≡ valueOr o (range None None))
+-- the bounds that the words of bs give the column were read, if they give some; or the words are not such columns
+abbrev pub BoundsRead : {E : Type 0} → List ℕ → List ℕ → Result (Option WholeRange) E → Type 0
+BoundsRead bs column (Ok o) = (ws : List (List ℕ)) × Words bs ws × Gives column ws o
 BoundsRead bs column (Err e) = (ws : List (List ℕ)) (o : Option WholeRange) → Words bs ws → Gives column ws o → ⊥
 
 -- a line of a segment: its name, then columns; the bounds of one that it lacks are open
@@ -125,6 +125,7 @@ pub record SegmentSays (bs column : List ℕ) (s : Segment) : Type 0 where
   pub plain : Lacks 61 (s .name .now)
   pub given : Option WholeRange
   pub gives : Gives column columns given
+  pub known : s .known ≡ isSome given
   pub bounds : s .bounds ≡ valueOr given (range None None)
 
 -- t is what follows the white space in front of bs

@@ -8,10 +8,11 @@ use crate::fault::Fault;
 use kinds::whole::WholeRange;
 use std::str::SplitWhitespace;
 
-// A segment's name, and the bounds of one column in it.
+// A segment's name, and the bounds of one column in it: open where the line does not have the column.
 #[derive(Clone, Copy)]
 pub struct Segment<'a> {
     pub name: &'a str,
+    pub known: bool,
     pub bounds: WholeRange,
 }
 
@@ -68,8 +69,8 @@ fn parse_column(word: &str) -> Result<(&str, WholeRange), Fault<'_>>
     }
 }
 
-// The bounds that the words give the column; open where none of them names it.
-fn bounds_in<'a>(words: SplitWhitespace<'a>, column: &str) -> Result<WholeRange, Fault<'a>>
+// The bounds that the words give the column; none where no word names it.
+fn bounds_in<'a>(words: SplitWhitespace<'a>, column: &str) -> Result<Option<WholeRange>, Fault<'a>>
     ensures { λ r. ⌜ BoundsRead (split-whitespace-rest (words .entry)) (now (column .entry)) r ⌝ }
 {
     let mut found = None;
@@ -85,10 +86,7 @@ fn bounds_in<'a>(words: SplitWhitespace<'a>, column: &str) -> Result<WholeRange,
             found = Some(bounds);
         }
     }
-    Ok(found.unwrap_or(WholeRange {
-        low: None,
-        high: None,
-    }))
+    Ok(found)
 }
 
 // Whether the line is blank or begins with `#`.
@@ -116,8 +114,16 @@ fn segment_of<'a>(line: &'a str, column: &str) -> Result<Segment<'a>, Fault<'a>>
             text: name,
         });
     }
-    let bounds = bounds_in(words, column)?;
-    Ok(Segment { name, bounds })
+    let given = bounds_in(words, column)?;
+    let open = WholeRange {
+        low: None,
+        high: None,
+    };
+    Ok(Segment {
+        name,
+        known: given.is_some(),
+        bounds: given.unwrap_or(open),
+    })
 }
 
 // The segment of a line, with the bounds of the column; none where the line is a comment.

@@ -25,7 +25,7 @@ loop-word-again-then-eq c =
 pub returns : need.returns
 returns c =
     let old = c .loop-word .inv in
-    (old .seen, c .loop-word .found, no-more old (c .in-None .ensures tt .steps .1), old .gives, c .unwrap-or .ensures)
+    (old .seen, no-more old (c .in-None .ensures tt .steps .1), old .gives)
 
 pub returns-in-Break-name : need.returns-in-Break-name
 returns-in-Break-name c =
