@@ -8,8 +8,8 @@ use Rattle.std.specs.Options.{isSome}
 use Rattle.std.proofs.shelf.Tests.{and-parts, and-cases, not-false, both-ways, false≢true}
 use Rattle.interval_arithmetic.specs.declared.compare.Comparison.{Comparison}
 use Rattle.interval_arithmetic.specs.declared.compare.Comparison.the-variants.{Gt, GtEq, Lt, LtEq, Eq}
-use Rattle.interval_arithmetic.specs.declared.truth.Truth.{Truth}
-use Rattle.interval_arithmetic.specs.declared.truth.Truth.the-variants.{True, False, Unsure}
+use Rattle.answers.specs.declared.truth.Truth.{Truth}
+use Rattle.answers.specs.declared.truth.Truth.the-variants.{True, False, Unsure}
 use Rattle.interval_arithmetic.specs.Model.{Order}
 use Rattle.interval_arithmetic.specs.Ends.{Above, Below, Within, end-is}
 use Rattle.interval_arithmetic.specs.Laws.{OrderLaws}

@@ -5,13 +5,14 @@ use Prim.Native.Nat.{ℕ}
 use native.Mathlib.Omega.{arith}
 use Rattle.std.specs.declared.option.Option.the-variants.{Some, None}
 use Rattle.std.specs.Options.{mapped}
-use Rattle.interval_arithmetic.specs.declared.truth.Truth.{Truth}
-use Rattle.interval_arithmetic.specs.declared.truth.Truth.the-variants.{True, False, Unsure}
+use Rattle.answers.specs.declared.truth.Truth.{Truth}
+use Rattle.answers.specs.declared.truth.Truth.the-variants.{True, False, Unsure}
 use Rattle.interval_arithmetic.specs.declared.range.Range.{Range}
 use Rattle.interval_arithmetic.specs.declared.range.Range.the-variants.{Boolean, Number}
 use Rattle.interval_arithmetic.specs.Model.{Order}
-use Rattle.interval_arithmetic.specs.Truths.{Told, truth-meet, truth-contains}
-use Rattle.interval_arithmetic.specs.Ends.{Within, Same, meet, contains-of, Contains}
+use Rattle.answers.specs.Truths.{Told, truth-meet, truth-contains}
+use Rattle.interval_arithmetic.specs.Ends.{Within, Same, meet, contains-of}
+use Rattle.answers.specs.Sharing.{Contains}
 use Rattle.interval_arithmetic.specs.Laws.{OrderLaws}
 use Rattle.interval_arithmetic.specs.Ranges.{Value, boolean, number, Holds, SameRange, range-meet, range-contains}
 use Rattle.interval_arithmetic.proofs.Meets.{contains-rule}

@@ -7,10 +7,11 @@ use Prim.Native.Nat.{ℕ}
 use Rattle.std.specs.declared.option.Option.{Option}
 use Rattle.std.specs.declared.option.Option.the-variants.{Some, None}
 use Rattle.std.proofs.shelf.Tests.{and-parts, and-from, both-ways, false≢true}
-use Rattle.interval_arithmetic.specs.declared.truth.Truth.{Truth}
-use Rattle.interval_arithmetic.specs.declared.truth.Truth.the-variants.{True, False, Unsure}
+use Rattle.answers.specs.declared.truth.Truth.{Truth}
+use Rattle.answers.specs.declared.truth.Truth.the-variants.{True, False, Unsure}
 use Rattle.interval_arithmetic.specs.Model.{Order}
-use Rattle.interval_arithmetic.specs.Ends.{Above, Below, Within, Inside, Same, end-is, uncrossed, fair, higher, lesser, meet, same-end, same-ends, contained, Shares, SharesSort, Contains}
+use Rattle.interval_arithmetic.specs.Ends.{Above, Below, Within, Inside, Same, end-is, uncrossed, fair, higher, lesser, meet, same-end, same-ends, contained}
+use Rattle.answers.specs.Sharing.{Shares, SharesSort, Contains}
 use Rattle.interval_arithmetic.specs.Laws.{OrderLaws, Made}
 
 pub some-inj : {A : Type 0} {x y : A} → Some x ≡ Some y → x ≡ y

@@ -3,8 +3,8 @@ use mathlib.Core.Path.{_≡_}
 use mathlib.Core.Bool.{Bool, true, false, cond, _&&_}
 use Rattle.std.specs.declared.option.Option.{Option}
 use Rattle.std.specs.declared.option.Option.the-variants.{Some, None}
-use Rattle.interval_arithmetic.specs.declared.truth.Truth.{Truth}
-use Rattle.interval_arithmetic.specs.declared.truth.Truth.the-variants.{True, False, Unsure}
+use Rattle.answers.specs.declared.truth.Truth.{Truth}
+use Rattle.answers.specs.declared.truth.Truth.the-variants.{True, False, Unsure}
 use Rattle.interval_arithmetic.specs.Model.{Order}
 
 -- is an open end, or a value of which p holds?
@@ -40,22 +40,6 @@ abbrev pub high-end : {V : Type 0} → (V → V → Bool) → Option V → Optio
 high-end leq l None = None
 high-end leq None (Some b) = Some b
 high-end leq (Some a) (Some b) = Some (cond (leq a b) b a)
-
--- what two ranges share holds exactly what both hold, and there is none only if they share nothing
-abbrev pub Shares : {X V : Type 0} → (X → V → Type 0) → X → X → Option X → Type 0
-Shares {V = V} holds a b None = (v : V) → holds a v → holds b v → ⊥
-Shares {V = V} holds a b (Some c) = ((v : V) → holds c v → holds a v × holds b v) × ((v : V) → holds a v → holds b v → holds c v)
-
--- what two ranges share has the sort of both
-abbrev pub SharesSort : {X S : Type 0} → (X → S) → X → X → Option X → Type 0
-SharesSort sort a b None = Unit {0}
-SharesSort sort a b (Some c) = (sort c ≡ sort a) × (sort c ≡ sort b)
-
--- a contains b: TRUE if what they share is b, and then a holds all that b holds; FALSE if they share nothing; UNSURE if they share something else than b
-abbrev pub Contains : {X V : Type 0} → (X → V → Type 0) → (X → X → Option X) → (X → X → Type 0) → X → X → Truth → Type 0
-Contains {X = X} {V = V} holds shared same a b True = ((c : X) × (shared a b ≡ Some c) × same c b) × ((v : V) → holds b v → holds a v)
-Contains {X = X} {V = V} holds shared same a b False = (shared a b ≡ None) × ((v : V) → holds b v → holds a v → ⊥)
-Contains {X = X} {V = V} holds shared same a b Unsure = (c : X) × (shared a b ≡ Some c) × (same c b → ⊥)
 
 module _ {V R S : Type 0} (o : Order V R S) where
   -- at or above a lower end; an open one is below every value

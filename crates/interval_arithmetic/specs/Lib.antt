@@ -1,5 +1,3 @@
-pub mod Refusals
-pub mod Truths
 pub mod Model
 pub mod Ends
 pub mod Sound

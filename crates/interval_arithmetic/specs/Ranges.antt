@@ -4,14 +4,14 @@ use mathlib.Core.Bool.{Bool}
 use Rattle.std.specs.declared.option.Option.{Option}
 use Rattle.std.specs.declared.option.Option.the-variants.{Some, None}
 use Rattle.std.specs.Options.{mapped}
-use Rattle.interval_arithmetic.specs.declared.truth.Truth.{Truth}
-use Rattle.interval_arithmetic.specs.declared.truth.Truth.the-variants.{True, False, Unsure}
+use Rattle.answers.specs.declared.truth.Truth.{Truth}
+use Rattle.answers.specs.declared.truth.Truth.the-variants.{True, False, Unsure}
 use Rattle.interval_arithmetic.specs.declared.range.DataType.{DataType}
 use Rattle.interval_arithmetic.specs.declared.range.DataType.the-variants as type
 use Rattle.interval_arithmetic.specs.declared.range.Range.{Range}
 use Rattle.interval_arithmetic.specs.declared.range.Range.the-variants.{Boolean, Number}
 use Rattle.interval_arithmetic.specs.Model.{Order}
-use Rattle.interval_arithmetic.specs.Truths.{Told, truth-meet, truth-contains}
+use Rattle.answers.specs.Truths.{Told, truth-meet, truth-contains}
 use Rattle.interval_arithmetic.specs.Ends.{Within, Same, meet, contains-of}
 
 -- a Boolean, or a value of the kind

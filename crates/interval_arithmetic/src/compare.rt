@@ -2,7 +2,7 @@
 ghost use mathlib.Core.Path.{_≡_};
 ghost use Rattle.interval_arithmetic.specs.Compare.{is-over, all-over, over-truth, equal-truth, compare-of, Compared};
 use crate::kind::Ranges;
-use crate::truth::Truth;
+use answers::truth::Truth;
 
 // The comparisons of two numbers of one sort.
 #[derive(Clone, Copy, PartialEq, Eq)]

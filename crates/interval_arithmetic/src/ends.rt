@@ -1,8 +1,9 @@
 // What two ranges of a kind share, and whether one contains the other.
 ghost use mathlib.Core.Path.{_≡_};
-ghost use Rattle.interval_arithmetic.specs.Ends.{Within, Same, meet, higher, lesser, same-end, same-ends, contains-of, Shares, SharesSort, Contains};
+ghost use Rattle.interval_arithmetic.specs.Ends.{Within, Same, meet, higher, lesser, same-end, same-ends, contains-of};
+ghost use Rattle.answers.specs.Sharing.{Shares, SharesSort, Contains};
 use crate::kind::Ranges;
-use crate::truth::Truth;
+use answers::truth::Truth;
 
 // The higher of two lower ends, a value before an open one.
 fn higher_end<K: Ranges>(a: Option<K::Value>, b: Option<K::Value>) -> Option<K::Value>

@@ -7,11 +7,9 @@
 // A kind is a type of ranges that implements `Ranges` (sorts, order, ends) and `Kind` (operations and
 // questions); `intersect`, `contains` and `satisfy_greater` are written and proved once, for every kind.
 // Each answer is pinned to one definition and says what it means for the values that the ranges hold.
-// The definitions stand in specs/: Refusals, Truths, Model, Ends, Laws, Sound, Greater and Ranges.
+// The definitions stand in specs/: Model, Ends, Sound, Laws, Compare, Greater and Ranges.
 pub mod compare;
 pub mod ends;
 pub mod greater;
 pub mod kind;
 pub mod range;
-pub mod refusal;
-pub mod truth;

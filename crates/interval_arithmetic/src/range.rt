@@ -1,11 +1,11 @@
 // A range of a node: what is known of a Boolean, or a range of a number kind.
 ghost use mathlib.Core.Path.{_≡_};
 ghost use Rattle.interval_arithmetic.specs.Ranges.{sort-in, Holds, SameRange, range-meet, range-contains};
-ghost use Rattle.interval_arithmetic.specs.Ends.{Shares, SharesSort, Contains};
+ghost use Rattle.answers.specs.Sharing.{Shares, SharesSort, Contains};
 use crate::ends::contains;
 use crate::ends::intersect;
 use crate::kind::Ranges;
-use crate::truth::Truth;
+use answers::truth::Truth;
 
 // The sort of a range, a column or a literal: Boolean, or a sort of the kind.
 #[derive(Clone, Copy)]

@@ -6,7 +6,7 @@ use lib.Signed.{leZ}
 use Rattle.std.specs.declared.option.Option.{Option}
 use Rattle.std.specs.declared.option.Option.the-variants.{Some, None}
 use Rattle.std.specs.declared.result.Result.{Result}
-use Rattle.interval_arithmetic.specs.declared.refusal.Refusal.{Refusal}
+use Rattle.answers.specs.declared.refusal.Refusal.{Refusal}
 use Rattle.kinds.specs.declared.whole.WholeRange.{WholeRange}
 use Rattle.interval_arithmetic.specs.Ends.{Above, Below, Within, end-is, fair}
 use Rattle.interval_arithmetic.specs.Laws.{OrderLaws, Made}

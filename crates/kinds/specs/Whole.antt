@@ -9,9 +9,9 @@ use Rattle.std.specs.declared.option.Option.{Option}
 use Rattle.std.specs.declared.option.Option.the-variants.{Some, None}
 use Rattle.std.specs.declared.result.Result.{Result}
 use Rattle.std.specs.declared.result.Result.the-variants.{Ok, Err}
-use Rattle.interval_arithmetic.specs.declared.refusal.Refusal.{Refusal}
-use Rattle.interval_arithmetic.specs.declared.refusal.Ground.the-variants.{CrossedEnds}
-use Rattle.interval_arithmetic.specs.Refusals.{refusal}
+use Rattle.answers.specs.declared.refusal.Refusal.{Refusal}
+use Rattle.answers.specs.declared.refusal.Ground.the-variants.{CrossedEnds}
+use Rattle.answers.specs.Refusals.{refusal}
 use Rattle.interval_arithmetic.specs.declared.kind.Arithmetic.{Arithmetic}
 use Rattle.interval_arithmetic.specs.declared.kind.Arithmetic.the-variants.{Plus, Minus}
 use Rattle.interval_arithmetic.specs.Model.{Order, Operations}

@@ -2,13 +2,13 @@
 ghost use mathlib.Core.Path.{_≡_};
 ghost use lib.IntN.{pos, _+ℤ_, _-ℤ_, negℤ};
 ghost use Rattle.kinds.specs.Whole.{fit64, sum-end, difference-end, negated-end, lower-of, upper-of, sum, difference, negated-range, make-of, try-new-of, Spans, whole-order, whole};
-ghost use Rattle.interval_arithmetic.specs.Refusals.{Refuses};
+ghost use Rattle.answers.specs.Refusals.{Refuses};
+use answers::refusal::Ground;
+use answers::refusal::Refusal;
 use interval_arithmetic::ends::intersect;
 use interval_arithmetic::kind::Arithmetic;
 use interval_arithmetic::kind::Kind;
 use interval_arithmetic::kind::Ranges;
-use interval_arithmetic::refusal::Ground;
-use interval_arithmetic::refusal::Refusal;
 
 #[derive(Clone, Copy)]
 pub enum WholeSort {
@@ -246,13 +246,13 @@ pub impl Kind for WholeRange as WholeKind {
 #[cfg(test)]
 mod tests {
     use super::*;
+    use answers::truth::Truth;
+    use answers::truth::TruthDebug;
+    use answers::truth::TruthPartialEq;
     use interval_arithmetic::compare::Comparison;
     use interval_arithmetic::compare::compare;
     use interval_arithmetic::ends::contains;
     use interval_arithmetic::greater::satisfy_greater;
-    use interval_arithmetic::truth::Truth;
-    use interval_arithmetic::truth::TruthDebug;
-    use interval_arithmetic::truth::TruthPartialEq;
     use std::test::*;
 
     fn range(low: Option<i64>, high: Option<i64>) -> WholeRange {

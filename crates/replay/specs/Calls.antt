@@ -6,8 +6,8 @@ use Rattle.std.specs.Results.{okPart}
 use Rattle.interval_arithmetic.specs.declared.kind.Arithmetic.{Arithmetic}
 use Rattle.interval_arithmetic.specs.declared.compare.Comparison.{Comparison}
 use Rattle.interval_arithmetic.specs.declared.compare.Comparison.the-variants.{Gt, GtEq, Lt, LtEq, Eq}
-use Rattle.interval_arithmetic.specs.declared.truth.Truth.{Truth}
-use Rattle.interval_arithmetic.specs.declared.truth.Truth.the-variants.{True, False, Unsure}
+use Rattle.answers.specs.declared.truth.Truth.{Truth}
+use Rattle.answers.specs.declared.truth.Truth.the-variants.{True, False, Unsure}
 use Rattle.interval_arithmetic.specs.Compare.{compare-of}
 use Rattle.interval_arithmetic.specs.Ends.{meet}
 use Rattle.interval_arithmetic.specs.Greater.{greater}

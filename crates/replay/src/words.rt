@@ -1,6 +1,6 @@
 // The words of a line: sorts, ends and ranges as a vector file writes them.
-use interval_arithmetic::truth::Truth;
-use interval_arithmetic::truth::TruthPartialEq;
+use answers::truth::Truth;
+use answers::truth::TruthPartialEq;
 use std::fmt;
 use std::str::SplitWhitespace;
 

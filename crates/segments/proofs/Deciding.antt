@@ -6,8 +6,8 @@ use lib.Signed.{leZ}
 use Rattle.std.specs.declared.option.Option.the-variants.{Some}
 use Rattle.std.specs.Options.{isSome}
 use Rattle.interval_arithmetic.specs.declared.compare.Comparison.{Comparison}
-use Rattle.interval_arithmetic.specs.declared.truth.Truth.{Truth}
-use Rattle.interval_arithmetic.specs.declared.truth.Truth.the-variants.{True, False, Unsure}
+use Rattle.answers.specs.declared.truth.Truth.{Truth}
+use Rattle.answers.specs.declared.truth.Truth.the-variants.{True, False, Unsure}
 use Rattle.interval_arithmetic.specs.Ends.{Above, Below, Within}
 use Rattle.interval_arithmetic.specs.Laws.{Made}
 use Rattle.interval_arithmetic.proofs.Meets.{fair-from}

@@ -19,7 +19,7 @@ use Rattle.std.specs.Words.{white, dark, Without, Opens}
 use Rattle.std.specs.Pieces.{Lacks}
 use Rattle.std.proofs.shelf.Lists.{getD-at}
 use Rattle.std.proofs.shelf.Tests.{and-parts, and-from, false≢true}
-use Rattle.interval_arithmetic.specs.declared.refusal.Refusal.{Refusal}
+use Rattle.answers.specs.declared.refusal.Refusal.{Refusal}
 use Rattle.interval_arithmetic.specs.Ends.{end-is, uncrossed, fair}
 use Rattle.kinds.specs.declared.whole.WholeRange.{WholeRange}
 use Rattle.kinds.specs.Whole.{inside, range, or-refused, try-new-of}

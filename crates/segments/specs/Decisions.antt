@@ -6,8 +6,8 @@ use lib.IntN.{ℤ}
 use Rattle.std.specs.declared.option.Option.the-variants.{Some}
 use Rattle.std.specs.Written.{decimal}
 use Rattle.interval_arithmetic.specs.declared.compare.Comparison.{Comparison}
-use Rattle.interval_arithmetic.specs.declared.truth.Truth.{Truth}
-use Rattle.interval_arithmetic.specs.declared.truth.Truth.the-variants.{True, False, Unsure}
+use Rattle.answers.specs.declared.truth.Truth.{Truth}
+use Rattle.answers.specs.declared.truth.Truth.the-variants.{True, False, Unsure}
 use Rattle.interval_arithmetic.specs.Ends.{Within}
 use Rattle.interval_arithmetic.specs.Compare.{Bounded, Compares, compare-of}
 use Rattle.kinds.specs.declared.whole.WholeRange.{WholeRange}

@@ -2,9 +2,9 @@
 ghost use mathlib.Core.Path.{_≡_};
 ghost use Rattle.std.specs.declared.option.Option.the-variants.{Some};
 ghost use Rattle.segments.specs.Decisions.{decision-of, decide-of, Decides, word-of, counted, total-of, tally-text};
+use answers::truth::Truth;
 use interval_arithmetic::compare::Comparison;
 use interval_arithmetic::compare::compare;
-use interval_arithmetic::truth::Truth;
 use kinds::whole::WholeRange;
 use kinds::whole::WholeRanges;
 use std::fmt;

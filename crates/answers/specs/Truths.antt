@@ -5,11 +5,11 @@ use Rattle.std.specs.declared.option.Option.{Option}
 use Rattle.std.specs.declared.option.Option.the-variants.{Some, None}
 use Rattle.std.specs.declared.result.Result.{Result}
 use Rattle.std.specs.declared.result.Result.the-variants.{Ok, Err}
-use Rattle.interval_arithmetic.specs.declared.refusal.Refusal.{Refusal}
-use Rattle.interval_arithmetic.specs.declared.refusal.Ground.the-variants.{CrossedEnds}
-use Rattle.interval_arithmetic.specs.declared.truth.Truth.{Truth}
-use Rattle.interval_arithmetic.specs.declared.truth.Truth.the-variants.{True, False, Unsure}
-use Rattle.interval_arithmetic.specs.Refusals.{refusal}
+use Rattle.answers.specs.declared.refusal.Refusal.{Refusal}
+use Rattle.answers.specs.declared.refusal.Ground.the-variants.{CrossedEnds}
+use Rattle.answers.specs.declared.truth.Truth.{Truth}
+use Rattle.answers.specs.declared.truth.Truth.the-variants.{True, False, Unsure}
+use Rattle.answers.specs.Refusals.{refusal}
 
 -- the Booleans that each holds
 abbrev pub told : Truth → Bool → Bool

@@ -6,9 +6,9 @@ use lib.Chars.{codes}
 use Rattle.std.specs.Written.{decimal}
 use Rattle.std.specs.declared.result.Result.{Result}
 use Rattle.std.specs.declared.result.Result.the-variants.{Ok, Err}
-use Rattle.interval_arithmetic.specs.declared.refusal.Refusal.{Refusal}
-use Rattle.interval_arithmetic.specs.declared.refusal.Ground.{Ground}
-use Rattle.interval_arithmetic.specs.declared.refusal.Ground.the-variants.{CrossedEnds, RecordCount, RecordPlace, BoundaryCount, BoundaryColumn, DistinctCount, NoRange, NoOperator, ColumnSort, LiteralRefused, SortsUnfit, ListTooShort, NoSuchNode, OtherSort, TrueDisjunction}
+use Rattle.answers.specs.declared.refusal.Refusal.{Refusal}
+use Rattle.answers.specs.declared.refusal.Ground.{Ground}
+use Rattle.answers.specs.declared.refusal.Ground.the-variants.{CrossedEnds, RecordCount, RecordPlace, BoundaryCount, BoundaryColumn, DistinctCount, NoRange, NoOperator, ColumnSort, LiteralRefused, SortsUnfit, ListTooShort, NoSuchNode, OtherSort, TrueDisjunction}
 
 -- the number by which a ground is known
 abbrev pub number : Ground → ℕ

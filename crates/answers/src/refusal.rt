@@ -1,6 +1,6 @@
 // Why a call refuses, and where.
 ghost use mathlib.Core.Path.{_≡_};
-ghost use Rattle.interval_arithmetic.specs.Refusals.{number, refusal, message, refusal-text};
+ghost use Rattle.answers.specs.Refusals.{number, refusal, message, refusal-text};
 ghost use Rattle.std.specs.declared.option.Option.the-variants.{Some};
 use std::error::Error;
 use std::fmt;
@@ -59,7 +59,7 @@ impl Ground {
     }
 
     // The number by which the ground is known, 1 to 15.
-    pub fn number(self) -> u8
+    fn number(self) -> u8
         ensures { λ r. ⌜ r ≡ number self ⌝ }
     {
         match self {
@@ -108,7 +108,7 @@ impl Ground {
 }
 
 impl Refusal {
-    // The number of the ground.
+    // The number of the ground, 1 to 15.
     pub fn number(self) -> u8
         ensures { λ r. ⌜ r ≡ number (self .ground) ⌝ }
     {

@@ -1,9 +1,9 @@
 // What is known of a Boolean.
 ghost use mathlib.Core.Path.{_≡_};
 ghost use mathlib.Core.Bool.{Bool, true};
-ghost use Rattle.interval_arithmetic.specs.Refusals.{Refuses};
-ghost use Rattle.interval_arithmetic.specs.Truths.{told, Told, between, Between, truth-meet, truth-contains};
-ghost use Rattle.interval_arithmetic.specs.Ends.{Shares, Contains};
+ghost use Rattle.answers.specs.Refusals.{Refuses};
+ghost use Rattle.answers.specs.Truths.{Told, between, Between, truth-meet, truth-contains};
+ghost use Rattle.answers.specs.Sharing.{Shares, Contains};
 use crate::refusal::Ground;
 use crate::refusal::Refusal;
 
@@ -27,17 +27,6 @@ impl Truth {
             (false, false) => Ok(Truth::False),
             (false, true) => Ok(Truth::Unsure),
             (true, false) => Err(Ground::CrossedEnds.at(0)),
-        }
-    }
-
-    // Whether the range holds this Boolean.
-    pub fn holds(self, b: bool) -> bool
-        ensures { λ r. ⌜ r ≡ told self b ⌝ }
-    {
-        match self {
-            Truth::True => b,
-            Truth::False => !b,
-            Truth::Unsure => true,
         }
     }
 

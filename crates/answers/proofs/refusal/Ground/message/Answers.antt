@@ -1,6 +1,6 @@
 use mathlib.Core.Path.{sym, ap}
-use Rattle.interval_arithmetic.specs.Refusals.{message}
-use Rattle.interval_arithmetic.proofs.refusal.Ground.message.Needs as need
+use Rattle.answers.specs.Refusals.{message}
+use Rattle.answers.proofs.refusal.Ground.message.Needs as need
 
 pub returns-in-CrossedEnds : need.returns-in-CrossedEnds
 returns-in-CrossedEnds c = ap message (sym (c .in-CrossedEnds .is))

@@ -1,0 +1,3 @@
+pub mod Refusals
+pub mod Truths
+pub mod Sharing
