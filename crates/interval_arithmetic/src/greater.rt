@@ -59,26 +59,40 @@ fn bring_down<K: Kind>(
     }
 }
 
+// The two ranges where the left one ends at or before the right one begins: an equal pair, or none.
+fn touch<K: Kind>(s: K::Sort, upper: K::Value, lower: K::Value, strict: bool) -> Option<(K, K)>
+    ensures { λ r. ⌜ r ≡ touching (K·Ranges .order) (K·Kind .operations) strict s upper lower ⌝ }
+{
+    if strict || !K::at_most(lower, upper) {
+        return None;
+    }
+    let one = K::make(s, Some(upper), Some(upper))?;
+    Some((one, one))
+}
+
+// The left range with a higher lower end, and the right one with a lower upper end.
+fn cut<K: Kind>(left: K, right: K, strict: bool) -> Option<(K, K)>
+    ensures { λ r. ⌜ r ≡ apart (K·Ranges .order) (K·Kind .operations) strict left right ⌝ }
+{
+    let low = raise::<K>(left.lower(), right.lower(), strict)?;
+    let high = bring_down::<K>(right.upper(), left.upper(), strict)?;
+    let l = K::make(left.sort(), low, left.upper())?;
+    let r = K::make(right.sort(), right.lower(), high)?;
+    Some((l, r))
+}
+
 fn narrowed<K: Kind>(left: K, right: K, strict: bool) -> Option<(K, K)>
     ensures { λ r. ⌜ r ≡ greater (K·Ranges .order) (K·Kind .operations) strict left right ⌝ }
 {
     if !K::same_sort(left.sort(), right.sort()) {
         return None;
     }
-    if let (Some(u), Some(d)) = (left.upper(), right.lower()) {
-        if K::at_most(u, d) {
-            if strict || !K::at_most(d, u) {
-                return None;
-            }
-            let one = K::make(left.sort(), Some(u), Some(u))?;
-            return Some((one, one));
+    match (left.upper(), right.lower()) {
+        (Some(upper), Some(lower)) if K::at_most(upper, lower) => {
+            touch::<K>(left.sort(), upper, lower, strict)
         }
+        _ => cut(left, right, strict),
     }
-    let low = raise::<K>(left.lower(), right.lower(), strict)?;
-    let high = bring_down::<K>(right.upper(), left.upper(), strict)?;
-    let l = K::make(left.sort(), low, left.upper())?;
-    let r = K::make(right.sort(), right.lower(), high)?;
-    Some((l, r))
 }
 
 // Hands on a pair, with what it means for the values of the two ranges.

@@ -8,5 +8,3 @@ pub mod decision;
 pub mod fault;
 pub mod filter;
 pub mod segment;
-#[cfg(test)]
-mod tests;

@@ -1,18 +1,18 @@
 // Worked examples: decisions, lines, filters, and what is said of those that are wrong.
-use crate::decision::Decision;
-use crate::decision::DecisionPartialEq;
-use crate::decision::Tally;
-use crate::decision::TallyDisplay;
-use crate::decision::decide;
-use crate::fault::Expected;
-use crate::fault::ExpectedPartialEq;
-use crate::fault::Fault;
-use crate::fault::FaultDisplay;
-use crate::filter::parse_filter;
-use crate::segment::parse_segment;
 use interval_arithmetic::compare::Comparison;
 use interval_arithmetic::compare::ComparisonPartialEq;
 use kinds::whole::WholeRange;
+use segments::decision::Decision;
+use segments::decision::DecisionPartialEq;
+use segments::decision::Tally;
+use segments::decision::TallyDisplay;
+use segments::decision::decide;
+use segments::fault::Expected;
+use segments::fault::ExpectedPartialEq;
+use segments::fault::Fault;
+use segments::fault::FaultDisplay;
+use segments::filter::parse_filter;
+use segments::segment::parse_segment;
 use std::test::*;
 
 // Whether the decision on the numbers from `low` to `high` is this one.
