@@ -1,12 +1,12 @@
 // Worked examples: decisions, lines, filters, and what is said of those that are wrong.
+use decisions::Decision;
+use decisions::DecisionPartialEq;
+use decisions::Tally;
+use decisions::TallyDisplay;
+use decisions::decide;
 use interval_arithmetic::compare::Comparison;
 use interval_arithmetic::compare::ComparisonPartialEq;
 use kinds::whole::WholeRange;
-use segments::decision::Decision;
-use segments::decision::DecisionPartialEq;
-use segments::decision::Tally;
-use segments::decision::TallyDisplay;
-use segments::decision::decide;
 use segments::fault::Expected;
 use segments::fault::ExpectedPartialEq;
 use segments::fault::Fault;

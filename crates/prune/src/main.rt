@@ -1,7 +1,7 @@
 // Reads segments and one comparison, and prints which of the segments must be read.
-use segments::decision::Tally;
-use segments::decision::TallyDisplay;
-use segments::decision::decide;
+use decisions::Tally;
+use decisions::TallyDisplay;
+use decisions::decide;
 use segments::fault::FaultDisplay;
 use segments::filter::Filter;
 use segments::filter::parse_filter;

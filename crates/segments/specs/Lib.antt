@@ -1,3 +1,2 @@
-pub mod Decisions
 pub mod Faults
 pub mod Texts

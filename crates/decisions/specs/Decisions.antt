@@ -12,9 +12,9 @@ use Rattle.interval_arithmetic.specs.Ends.{Within}
 use Rattle.interval_arithmetic.specs.Compare.{Bounded, Compares, compare-of}
 use Rattle.kinds.specs.declared.whole.WholeRange.{WholeRange}
 use Rattle.kinds.specs.Whole.{range, whole-order}
-use Rattle.segments.specs.declared.decision.Decision.{Decision}
-use Rattle.segments.specs.declared.decision.Decision.the-variants.{Skip, Read, Whole}
-use Rattle.segments.specs.declared.decision.Tally.{Tally}
+use Rattle.decisions.specs.declared.Decision.{Decision}
+use Rattle.decisions.specs.declared.Decision.the-variants.{Skip, Read, Whole}
+use Rattle.decisions.specs.declared.Tally.{Tally}
 
 abbrev pub decision-of : Truth → Decision
 decision-of True = Whole

@@ -1,7 +1,7 @@
-// Which segments a comparison skips, by the bounds of a column.
+// What to do with a segment, by the bounds of a column: skip it, read it, or take it whole.
 ghost use mathlib.Core.Path.{_≡_};
 ghost use Rattle.std.specs.declared.option.Option.the-variants.{Some};
-ghost use Rattle.segments.specs.Decisions.{decision-of, decide-of, Decides, word-of, counted, total-of, tally-text};
+ghost use Rattle.decisions.specs.Decisions.{decision-of, decide-of, Decides, word-of, counted, total-of, tally-text};
 use answers::truth::Truth;
 use interval_arithmetic::compare::Comparison;
 use interval_arithmetic::compare::compare;

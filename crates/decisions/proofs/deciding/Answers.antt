@@ -1,6 +1,6 @@
 use borrow.Author.Needs.{needs}
-use Rattle.segments.proofs.Deciding.{decides}
-use Rattle.segments.proofs.decision.deciding.Needs as need
+use Rattle.decisions.proofs.Meaning.{decides}
+use Rattle.decisions.proofs.deciding.Needs as need
 
 pub returns : need.returns
 returns c = record {

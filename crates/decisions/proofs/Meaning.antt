@@ -18,8 +18,8 @@ use Rattle.kinds.specs.declared.whole.WholeSort.the-variants.{Whole}
 use Rattle.kinds.specs.Whole.{inside, range, whole-order}
 use Rattle.kinds.proofs.Integers.{leq-refl, leq-antisym}
 use Rattle.kinds.proofs.WholeEnds.{order-laws, range-made, range-within}
-use Rattle.segments.specs.declared.decision.Decision.{Decision}
-use Rattle.segments.specs.Decisions.{decision-of, decide-of, Decides}
+use Rattle.decisions.specs.declared.Decision.{Decision}
+use Rattle.decisions.specs.Decisions.{decision-of, decide-of, Decides}
 
 -- the range of one number holds it
 one-within : (v : ℤ) → inside v ≡ true → Within whole-order (range (Some v) (Some v)) v
