@@ -22,7 +22,7 @@ number NoSuchNode = 13
 number OtherSort = 14
 number TrueDisjunction = 15
 
-abbrev pub refusal : Ground → ℕ → Refusal
+abbrev pub refusal : (ground : Ground) → (position : ℕ) → Refusal
 refusal g p = record { ground = g; position = p }
 
 -- a refusal, if there is one, is number n at position p

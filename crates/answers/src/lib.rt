@@ -2,5 +2,7 @@
 //
 //     refusal   the grounds for refusal, each with its number
 //     truth     TRUE, FALSE or UNSURE
+#![tactic(auto)]
+
 pub mod refusal;
 pub mod truth;

@@ -1,4 +1,6 @@
 // What to do with a segment, by the bounds of a column: skip it, read it, or take it whole.
+#![tactic(auto)]
+
 ghost use Rattle.std.specs.Prelude.{◌≡◌, Some};
 ghost use Rattle.decisions.specs.Decisions.{decision_of, decide_of, Decides, word_of, counted, total_of, tally_text};
 

@@ -4,6 +4,8 @@
 //     time_values     stamps, spans and steps, open steps too
 //     joined_kinds    three kinds in one
 //     segment_lines   decisions, the lines of segments and filters, and what is said of bad ones
+#![tactic(auto)]
+
 #[cfg(test)]
 mod joined_kinds;
 #[cfg(test)]

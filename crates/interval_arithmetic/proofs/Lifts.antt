@@ -1,5 +1,5 @@
 -- What holds of truths and of a kind's ranges holds of the ranges that are either. Assumes nothing.
-use Rattle.std.proofs.Common.{◌≡◌, ℕ, Bool, true, false, Some, None, sym, refl, ap, subst, arith}
+use Rattle.std.proofs.Common.{◌≡◌, ℕ, Bool, true, false, sym, refl, ap, subst, arith}
 use Rattle.std.specs.Option.{option_map}
 use Rattle.answers.specs.declared.truth.Truth.{Truth}
 use Rattle.answers.specs.declared.truth.Truth.TheVariants.{True, False, Unsure}

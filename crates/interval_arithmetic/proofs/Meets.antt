@@ -1,12 +1,12 @@
 -- A value lies in what two ranges share exactly if it lies in both. Assumes nothing.
-use Rattle.std.proofs.Common.{◌≡◌, ℕ, Bool, true, false, cond, ◌&&◌, ◌⊎◌, Some, None, Option, Result, sym, refl, ap, ◌∙◌, subst, inl, inr, arith}
+use Rattle.std.proofs.Common.{◌≡◌, ℕ, Bool, true, false, cond, ◌&&◌, Some, None, Option, Result, sym, refl, ap, ◌∙◌, subst, arith}
 use Rattle.std.specs.Option.{ok_or}
 use Rattle.answers.specs.declared.refusal.Refusal.{Refusal}
 use Rattle.answers.specs.declared.refusal.Ground.TheVariants.{CrossedEnds}
 use Rattle.answers.specs.Refusals.{refusal}
 use Rattle.std.proofs.lemmas.Bool.{and_parts, and_from, both_ways, false≢true}
 use Rattle.answers.specs.declared.truth.Truth.{Truth}
-use Rattle.answers.specs.declared.truth.Truth.TheVariants.{True, False, Unsure}
+use Rattle.answers.specs.declared.truth.Truth.TheVariants.{True, Unsure}
 use Rattle.interval_arithmetic.specs.Model.{Order}
 use Rattle.interval_arithmetic.specs.Ends.{Above, Below, Within, Spans, try_new_of, Inside, Same, end_is, uncrossed, fair, higher, lesser, meet, same_end, same_ends, contained}
 use Rattle.answers.specs.Sharing.{Shares, SharesSort, Contains}

@@ -1,7 +1,7 @@
 -- Soundness over lists of two ranges, as statements on pairs. Assumes nothing.
-use Rattle.std.proofs.Common.{◌≡◌, List, [], ◌∷◌, Some, None, Option, refl}
+use Rattle.std.proofs.Common.{◌≡◌, List, [], ◌∷◌, Some, None, Option}
 use Rattle.std.specs.Option.{option_map}
-use Rattle.interval_arithmetic.specs.Sound.{All, OfTwo, of_one, of_two, both, Covers, Yields, Narrows}
+use Rattle.interval_arithmetic.specs.Sound.{All, of_one, of_two, both, Covers, Narrows}
 
 module _ {X V : Type 0} {holds one : X → V → Type 0} where
   pub covers_one : (f : V → Option V) (x r : X) → ((a c : V) → holds x a → f a ≡ Some c → holds r c) → ((a c : V) → one x a → f a ≡ Some c → one r c) → Covers holds one (of_one f) (x ∷ []) r

@@ -1,8 +1,8 @@
 -- A range of a node: what is known of a Boolean, or a range of a number kind. Assumes nothing.
-use Rattle.std.specs.Prelude.{◌≡◌, Bool, Some, None, Option}
+use Rattle.std.specs.Prelude.{◌≡◌, Bool, None, Option}
 use Rattle.std.specs.Option.{option_map}
 use Rattle.answers.specs.declared.truth.Truth.{Truth}
-use Rattle.answers.specs.declared.truth.Truth.TheVariants.{True, False, Unsure}
+use Rattle.answers.specs.declared.truth.Truth.TheVariants.{False}
 use Rattle.interval_arithmetic.specs.declared.range.DataType.{DataType}
 use Rattle.interval_arithmetic.specs.declared.range.DataType.TheVariants as type
 use Rattle.interval_arithmetic.specs.declared.range.Range.{Range}

@@ -8,6 +8,8 @@
 // questions); `intersect`, `contains` and `satisfy_greater` are written and proved once, for every kind.
 // Each answer is pinned to one definition and says what it means for the values that the ranges hold.
 // The definitions stand in specs/: Model, Ends, Sound, Laws, Compare, Greater and Ranges.
+#![tactic(auto)]
+
 pub mod compare;
 pub mod ends;
 pub mod greater;

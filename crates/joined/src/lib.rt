@@ -5,6 +5,8 @@
 //
 // Across the two no sorts fit and no values are ordered. `Joined<A, Joined<B, C>>` is three kinds as one.
 // The definitions stand in specs/Join.antt.
+#![tactic(auto)]
+
 ghost use Rattle.std.specs.Prelude.{◌≡◌};
 ghost use Rattle.std.specs.Option.{option_map};
 ghost use Rattle.joined.specs.Join.{first_end, second_end, make_of, joined_order, joined};

@@ -9,7 +9,7 @@ use Rattle.interval_arithmetic.proofs.Meets.{fair_from, between, made_within}
 use Rattle.interval_arithmetic.proofs.Plain.{reads_fair, reads_same}
 use Rattle.kinds.specs.declared.whole.WholeSort.{WholeSort}
 use Rattle.kinds.specs.declared.whole.WholeSort.TheVariants.{Whole}
-use Rattle.kinds.specs.Whole.{inside, range, make_of, or_refused, try_new_of, Spans, whole_order}
+use Rattle.kinds.specs.Whole.{inside, range, or_refused, try_new_of, Spans, whole_order}
 use Rattle.kinds.specs.Integers.{leq_total, leq_refl, leq_antisym, leq_trans}
 
 pub range_made : (s : WholeSort) (l u : Option ℤ) → fair inside int_le l u ≡ true → Made whole_order s l u (range l u)

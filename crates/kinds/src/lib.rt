@@ -3,4 +3,6 @@
 //     whole   64-bit whole numbers
 //
 // Each is proved against the laws once; whatever is written over kinds then holds of it.
+#![tactic(auto)]
+
 pub mod whole;

@@ -1,4 +1,6 @@
 // Reads segments and one comparison, and prints which of the segments must be read.
+#![tactic(auto)]
+
 use decisions::{Tally, decide};
 use segments::filter::{Filter, parse_filter};
 use segments::segment::parse_segment;

@@ -7,6 +7,8 @@
 // it needs around it. A line has the input, the word `=`, and the answer to hold the libraries to; behind
 // the word `|` there may be an answer that is not compared. A call that the libraries do not have is
 // passed over.
+#![tactic(auto)]
+
 ghost use Rattle.std.specs.Prelude.{◌≡◌, ◌&&◌, ◌==◌};
 
 mod operators;

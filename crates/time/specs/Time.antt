@@ -1,5 +1,5 @@
 -- Stamps, spans and steps of time, as a kind: whole numbers of nanoseconds, each of a sort. Assumes nothing.
-use Rattle.std.specs.Prelude.{◌≡◌, Bool, true, false, cond, ◌&&◌, ℤ, pos, negsuc, is_some, Some, None, Option, ◌==◌, int_le}
+use Rattle.std.specs.Prelude.{Bool, true, false, cond, ◌&&◌, ℤ, pos, negsuc, is_some, Some, None, Option, ◌==◌, int_le}
 use Rattle.std.specs.Option.{option_map, unwrap_or, option_zip}
 use Rattle.interval_arithmetic.specs.declared.kind.Arithmetic.{Arithmetic}
 use Rattle.interval_arithmetic.specs.declared.kind.Arithmetic.TheVariants.{Plus, Minus}

@@ -1,5 +1,5 @@
 -- Times as nanoseconds of a sort: how a range of them reads, and the laws of their order. Assumes nothing.
-use Rattle.std.specs.Prelude.{◌≡◌, Bool, true, false, cond, ℤ, Some, None, Option, int_le, refl}
+use Rattle.std.specs.Prelude.{◌≡◌, true, cond, ℤ, Some, None, Option, int_le, refl}
 use Rattle.std.proofs.Common.{sym, ◌∙◌, ap, subst}
 use Rattle.std.specs.Option.{option_map}
 use Rattle.std.proofs.lemmas.Bool.{and_parts, and_from, false≢true}
@@ -15,7 +15,7 @@ use Rattle.time.specs.declared.TimeSort.{TimeSort}
 use Rattle.time.specs.declared.TimeSort.TheVariants.{Stamp, Span, Step}
 use Rattle.time.specs.declared.Time.{Time}
 use Rattle.time.specs.declared.TimeRange.{TimeRange}
-use Rattle.time.specs.Time.{same_sort, of_sort, range_of, number, is_time, at_most, make_of, time_order}
+use Rattle.time.specs.Time.{same_sort, of_sort, range_of, number, is_time, at_most, time_order}
 
 same_is : (s t : TimeSort) → same_sort s t ≡ true → s ≡ t
 same_is Stamp Stamp h = refl

@@ -6,6 +6,8 @@
 //
 // A range is a sort beside a range of nanoseconds, whose ends are made as those of whole numbers.
 // The definitions stand in specs/Time.antt.
+#![tactic(auto)]
+
 ghost use Rattle.std.specs.Prelude.{◌≡◌, is_some};
 ghost use Rattle.std.specs.Option.{option_map, option_zip};
 ghost use Rattle.answers.specs.Refusals.{Refuses};
