@@ -25,5 +25,5 @@ returns-then-contains c =
 pub returns-in-Err-default : goal.returns-in-Err-default
 returns-in-Err-default c = λ f k. c.in-Err-default.ensures.1 f.comparison (sym (filter_operator c.requires f k))
 
-pub returns-in-default-Err : goal.returns-in-default-Err
-returns-in-default-Err c = λ f k. c.in-default-Err.ensures'.1 f.value (subst (λ x. Reads x f.value) (filter_number c.requires f k) k.value)
+pub returns-in_default-Err : goal.returns-in_default-Err
+returns-in_default-Err c = λ f k. c.in_default-Err.ensures'.1 f.value (subst (λ x. Reads x f.value) (filter_number c.requires f k) k.value)

@@ -7,26 +7,26 @@ use Rattle.segments.proofs.segment.parse_bounds.Goals as goal
 pub returns-in-Ok : goal.returns-in-Ok
 returns-in-Ok c =
     let cut = split_text_parts (codes "..") c.args.text.now (Some (c.in-Some.low, c.in-Some.high)) c.in-Some.ensures.cases in
-    bounds_made c.args.text.now c.in-Some.low.now c.in-Some.high.now c.in-ok-low.low c.in-ok-high.high c.in-Ok.bounds c.try-new.result
-    cut c.in-ok-low.ensures c.in-ok-high.ensures c.in-Ok.is c.try-new.ensures.value
+    bounds_made c.args.text.now c.in-Some.low.now c.in-Some.high.now c.in_ok-low.low c.in_ok-high.high c.in-Ok.bounds c.try_new.result
+    cut c.in_ok-low.ensures c.in_ok-high.ensures c.in-Ok.is c.try_new.ensures.value
 
-pub returns-in-default : goal.returns-in-default
-returns-in-default c = λ r b. split_text_parts (codes "..") c.args.text.now None c.in-default.ensures.cases b.front b.back b.cut
+pub returns-in_default : goal.returns-in_default
+returns-in_default c = λ r b. split_text_parts (codes "..") c.args.text.now None c.in_default.ensures.cases b.front b.back b.cut
 
-pub returns-in-err-low : goal.returns-in-err-low
-returns-in-err-low c =
+pub returns-in_err-low : goal.returns-in_err-low
+returns-in_err-low c =
     let cut = split_text_parts (codes "..") c.args.text.now (Some (c.in-Some.low, c.in-Some.high)) c.in-Some.ensures.cases in
-    let p = err_from_is_err_and c.from-residual.result c.from-residual.ensures.1 in
-    rw p.1 (no_lower c.in-Some.low.now c.in-Some.high.now cut c.in-err-low.ensures.1)
+    let p = err_from_is_err_and c.from_residual.result c.from_residual.ensures.1 in
+    rw p.1 (no_lower c.in-Some.low.now c.in-Some.high.now cut c.in_err-low.ensures.1)
 
-pub returns-in-err-high : goal.returns-in-err-high
-returns-in-err-high c =
+pub returns-in_err-high : goal.returns-in_err-high
+returns-in_err-high c =
     let cut = split_text_parts (codes "..") c.args.text.now (Some (c.in-Some.low, c.in-Some.high)) c.in-Some.ensures.cases in
-    let p = err_from_is_err_and c.from-residual-in-err-high.result c.from-residual-in-err-high.ensures.1 in
-    rw p.1 (no_upper c.in-Some.low.now c.in-Some.high.now cut c.in-err-high.ensures.1)
+    let p = err_from_is_err_and c.from_residual-in_err-high.result c.from_residual-in_err-high.ensures.1 in
+    rw p.1 (no_upper c.in-Some.low.now c.in-Some.high.now cut c.in_err-high.ensures.1)
 
 pub returns-in-Err : goal.returns-in-Err
 returns-in-Err c =
     let cut = split_text_parts (codes "..") c.args.text.now (Some (c.in-Some.low, c.in-Some.high)) c.in-Some.ensures.cases in
-    no_crossed c.in-Some.low.now c.in-Some.high.now cut c.in-ok-low.low c.in-ok-high.high _ c.try-new.result
-    c.in-ok-low.ensures c.in-ok-high.ensures c.in-Err.is c.try-new.ensures.value
+    no_crossed c.in-Some.low.now c.in-Some.high.now cut c.in_ok-low.low c.in_ok-high.high _ c.try_new.result
+    c.in_ok-low.ensures c.in_ok-high.ensures c.in-Err.is c.try_new.ensures.value

@@ -8,11 +8,11 @@ returns-in-Ok c =
     let parts = split_parts 61 c.args.word.now (Some (c.in-Some.name, c.in-Some.text)) c.in-Some.ensures.cases (omega arith) in
     record { back = c.in-Some.text.now; cut = parts.0; named = search rules; plain = parts.1; bounds = c.in-Ok.ensures }
 
-pub returns-in-default : goal.returns-in-default
-returns-in-default c = λ name r k. no_mark c.args.word.now name r (split_parts 61 c.args.word.now None c.in-default.ensures.cases (omega arith)) k
+pub returns-in_default : goal.returns-in_default
+returns-in_default c = λ name r k. no_mark c.args.word.now name r (split_parts 61 c.args.word.now None c.in_default.ensures.cases (omega arith)) k
 
-pub returns-then-is-empty : goal.returns-then-is-empty
-returns-then-is-empty c =
+pub returns-then-is_empty : goal.returns-then-is_empty
+returns-then-is_empty c =
     let parts = split_parts 61 c.args.word.now (Some (c.in-Some.name, c.in-Some.text)) c.in-Some.ensures.cases (omega arith) in
     no_name c.in-Some.name.now c.in-Some.text.now parts.0 parts.1 (search rules)
 
