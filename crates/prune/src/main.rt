@@ -6,6 +6,7 @@ use segments::filter::{Filter, parse_filter};
 use segments::segment::parse_segment;
 use std::fs::File;
 use std::io::{BufRead, BufReader, ErrorKind, Read};
+use std::process::ExitCode;
 use std::{env, io};
 
 // Why the program ends with status 1.
@@ -212,10 +213,13 @@ fn run(rt: &HostRuntime) -> Result<(), Failed> {
     }
 }
 
-fn main(rt: HostRuntime) -> Result<(), Failed> {
-    let result = run(&rt);
-    if let Err(Failed::Io(e)) = &result {
-        eprintln!(rt; "prune: {e}")?;
+fn main(rt: HostRuntime) -> ExitCode {
+    match run(&rt) {
+        Ok(()) => ExitCode::SUCCESS,
+        Err(Failed::Told) => ExitCode::FAILURE,
+        Err(Failed::Io(e)) => {
+            let _ = eprintln!(rt; "prune: {e}");
+            ExitCode::FAILURE
+        }
     }
-    result
 }
