@@ -4,7 +4,6 @@ use Rattle.std.specs.Result.{result_ok}
 use Rattle.interval_arithmetic.specs.declared.kind.Arithmetic.{Arithmetic}
 use Rattle.interval_arithmetic.specs.declared.compare.Comparison.{Comparison}
 use Rattle.interval_arithmetic.specs.declared.compare.Comparison.TheVariants.{Gt, GtEq, Lt, LtEq, Eq}
-use Rattle.answers.specs.declared.truth.Truth.{Truth}
 use Rattle.answers.specs.declared.truth.Truth.TheVariants.{True, False, Unsure}
 use Rattle.interval_arithmetic.specs.Compare.{compare_of}
 use Rattle.interval_arithmetic.specs.Ends.{meet}
