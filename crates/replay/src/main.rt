@@ -235,7 +235,7 @@ fn run(rt: &HostRuntime) -> anyhow::Result<()> {
     }
 }
 
-// Prints an error that comes, and ends with its status.
+// Replays what the arguments name; an error that comes is printed, and the status is 1.
 fn main(rt: HostRuntime) -> anyhow::Result<()> {
     run(&rt)
 }
