@@ -1,14 +1,12 @@
--- What is decided of a segment, what that means for the values within its bounds, and the tally that is printed. Assumes nothing.
-use Rattle.std.specs.Prelude.{◌≡◌, ℕ, ◌+◌, ◌-◌, ◌^◌, min, Bool, true, cond, ◌&&◌, List, ◌++◌, Some, None, Ok, Err, codes, decimal, Option, Result}
-use Rattle.answers.specs.declared.refusal.Refusal.{Refusal}
-use Rattle.answers.specs.declared.refusal.Ground.TheVariants.{SortsUnfit}
+-- What is decided of a segment, what that means for the numbers within its bounds, and the tally that is printed. Assumes nothing.
+use Rattle.std.specs.Prelude.{ℕ, ◌+◌, ◌-◌, ◌^◌, min, List, ◌++◌, ℤ, Some, codes, decimal}
+use Rattle.interval_arithmetic.specs.declared.compare.Comparison.{Comparison}
 use Rattle.answers.specs.declared.truth.Truth.{Truth}
 use Rattle.answers.specs.declared.truth.Truth.TheVariants.{True, False, Unsure}
-use Rattle.answers.specs.Refusals.{refusal}
-use Rattle.interval_arithmetic.specs.declared.compare.Comparison.{Comparison}
-use Rattle.interval_arithmetic.specs.Model.{Order, Operations}
 use Rattle.interval_arithmetic.specs.Ends.{Within}
 use Rattle.interval_arithmetic.specs.Compare.{Bounded, Compares, compare_of}
+use Rattle.kinds.specs.declared.whole.WholeRange.{WholeRange}
+use Rattle.kinds.specs.Whole.{range, whole_order}
 use Rattle.decisions.specs.declared.Decision.{Decision}
 use Rattle.decisions.specs.declared.Decision.TheVariants.{Skip, Read, Whole}
 use Rattle.decisions.specs.declared.Tally.{Tally}
@@ -18,53 +16,15 @@ decision_of True = Whole
 decision_of False = Skip
 decision_of Unsure = Read
 
-module _ {V R S : Type 0} (o : Order V R S) where
-  -- by what is known of the comparison of the bounds with the range of one value
-  abbrev pub by_one : Comparison → R → Option R → Decision
-  by_one c b None = Read
-  by_one c b (Some one) = decision_of (compare_of o c b one)
+-- by what is known of the comparison of the bounds with the range of one number
+abbrev pub decide_of : Comparison → WholeRange → ℤ → Decision
+decide_of c b v = decision_of (compare_of whole_order c b (range (Some v) (Some v)))
 
-  -- where nothing is known, the segment has to be read
-  abbrev pub decision_by : Comparison → Option R → V → Decision
-  decision_by c None v = Read
-  decision_by c (Some b) v = by_one c b (o.make (o.sort_of v) (Some v) (Some v))
-
-  -- Skip only if no value within the bounds compares so with v, Whole only if every one does; Read between ends that are values, and of a value of its sort, only if some do and some do not
-  abbrev pub Means : Comparison → R → V → Decision → Type 0
-  Means c b v Skip = (x : V) → Within o b x → Compares o c x v → ⊥
-  Means c b v Read =
-      Bounded o b → o.is (o.sort_of v) v ≡ true → ((x : V) × Within o b x × Compares o c x v) × ((x : V) × Within o b x × (Compares o c x v → ⊥))
-  Means c b v Whole = (x : V) → Within o b x → Compares o c x v
-
-  abbrev pub MeansBy : Comparison → Option R → V → Decision → Type 0
-  MeansBy c None v d = d ≡ Read
-  MeansBy c (Some b) v d = Means c b v d
-
-  -- there are no bounds, or they are of the sort
-  abbrev pub of_sort : Option R → S → Bool
-  of_sort None s = true
-  of_sort (Some b) s = o.same (o.sort b) s
-
-  abbrev pub OfSort : Option R → S → Type 0
-  OfSort None s = Unit {0}
-  OfSort (Some b) s = o.sort b ≡ s
-
-module _ {V R S L : Type 0} (o : Order V R S) (m : Operations V R S L) where
-  -- may the values within the bounds be compared with v?
-  abbrev pub comparable : Option R → V → Bool
-  comparable b v = m.compares (o.sort_of v) && of_sort o b (o.sort_of v)
-
-  abbrev pub Comparable : Option R → V → Type 0
-  Comparable b v = (m.compares (o.sort_of v) ≡ true) × OfSort o b (o.sort_of v)
-
-  -- the decision, or refusal 11
-  abbrev pub decide_of : Comparison → Option R → V → Result Decision Refusal
-  decide_of c b v = cond (comparable b v) (Ok (decision_by o c b v)) (Err (refusal SortsUnfit 0))
-
-  -- a decision is made, and means what it says, just where the values may be compared
-  abbrev pub Decides : Comparison → Option R → V → Result Decision Refusal → Type 0
-  Decides c b v (Ok d) = Comparable b v × MeansBy o c b v d
-  Decides c b v (Err e) = Comparable b v → ⊥
+-- Skip only if no number within the bounds compares so with v, Whole only if every one does; Read between ends that are numbers only if some do and some do not
+abbrev pub Decides : Comparison → WholeRange → ℤ → Decision → Type 0
+Decides c b v Skip = (x : ℤ) → Within whole_order b x → Compares whole_order c x v → ⊥
+Decides c b v Read = Bounded whole_order b → ((x : ℤ) × Within whole_order b x × Compares whole_order c x v) × ((x : ℤ) × Within whole_order b x × (Compares whole_order c x v → ⊥))
+Decides c b v Whole = (x : ℤ) → Within whole_order b x → Compares whole_order c x v
 
 -- the word that is printed
 abbrev pub word_of : Decision → List ℕ

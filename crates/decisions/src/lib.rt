@@ -2,13 +2,11 @@
 #![tactic(auto)]
 
 ghost use Rattle.std.specs.Prelude.{◌≡◌, Some};
-ghost use Rattle.answers.specs.Refusals.{Refuses};
-ghost use Rattle.decisions.specs.Decisions.{decision_of, comparable, decision_by, decide_of, Decides, word_of, counted, total_of, tally_text};
+ghost use Rattle.decisions.specs.Decisions.{decision_of, decide_of, Decides, word_of, counted, total_of, tally_text};
 
-use answers::refusal::{Ground, Refusal};
 use answers::truth::Truth;
 use interval_arithmetic::compare::{Comparison, compare};
-use interval_arithmetic::kind::Kind;
+use kinds::whole::WholeRange;
 use std::fmt;
 
 // What to do with a segment.
@@ -32,61 +30,26 @@ fn decision_by(truth: Truth) -> Decision
     }
 }
 
-// Whether values of its sort can be compared, and the bounds are of that sort.
-fn is_comparable<K: Kind>(bounds: Option<K>, value: K::Value) -> bool
-    ensures { result ≡ comparable K.Ranges.order K.Kind.operations bounds value }
-{
-    let sort = K::sort_of(value);
-    match bounds {
-        Some(bounds) => K::compares(sort) && K::same_sort(bounds.sort(), sort),
-        None => K::compares(sort),
-    }
-}
-
-// Read where nothing is known, else by the comparison of the bounds with the range of the one value.
-fn decide_by<K: Kind>(comparison: Comparison, bounds: Option<K>, value: K::Value) -> Decision
-    ensures { result ≡ decision_by K.Ranges.order comparison bounds value }
-{
-    let Some(bounds) = bounds else {
-        return Decision::Read;
-    };
-    match K::make(K::sort_of(value), Some(value), Some(value)) {
-        Some(one) => decision_by(compare(comparison, bounds, one)),
-        None => Decision::Read,
-    }
-}
-
-// Hands on a decision, with what it means for the values within the bounds.
-fn deciding<K: Kind>(
-    comparison: Comparison,
-    bounds: Option<K>,
-    value: K::Value,
-    answer: Result<Decision, Refusal>,
-) -> Result<Decision, Refusal>
-    requires { answer ≡ decide_of K.Ranges.order K.Kind.operations comparison bounds value }
-    ensures value { result ≡ decide_of K.Ranges.order K.Kind.operations comparison bounds value }
-    ensures holds { Decides K.Ranges.order K.Kind.operations comparison bounds value result }
+// Hands on a decision, with what it means for the numbers within the bounds.
+fn deciding(comparison: Comparison, bounds: WholeRange, value: i64, answer: Decision) -> Decision
+    requires { answer ≡ decide_of comparison bounds value }
+    ensures value { result ≡ decide_of comparison bounds value }
+    ensures holds { Decides comparison bounds value result }
 {
     answer
 }
 
-// Skip where no value within the bounds compares so with `value`, Whole where every one does, else Read; Read too
-// where there are no bounds, that is nothing is known. Refused where the sorts do not go together.
-pub fn decide<K: Kind>(
-    comparison: Comparison,
-    bounds: Option<K>,
-    value: K::Value,
-) -> Result<Decision, Refusal>
-    ensures value { result ≡ decide_of K.Ranges.order K.Kind.operations comparison bounds value }
-    ensures holds { Decides K.Ranges.order K.Kind.operations comparison bounds value result }
-    ensures refuses { Refuses 11 0 result }
+// Skip where no number within the bounds compares so with `value`, Whole where every one does, else Read.
+pub fn decide(comparison: Comparison, bounds: WholeRange, value: i64) -> Decision
+    ensures value { result ≡ decide_of comparison bounds value }
+    ensures holds { Decides comparison bounds value result }
 {
-    let answer = if is_comparable::<K>(bounds, value) {
-        Ok(decide_by::<K>(comparison, bounds, value))
-    } else {
-        Err(Ground::SortsUnfit.at(0))
+    let one = WholeRange {
+        low: Some(value),
+        high: Some(value),
     };
-    deciding::<K>(comparison, bounds, value, answer)
+    let answer = decision_by(compare(comparison, bounds, one));
+    deciding(comparison, bounds, value, answer)
 }
 
 impl Decision {

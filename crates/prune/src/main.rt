@@ -2,10 +2,8 @@
 #![tactic(auto)]
 
 use decisions::{Tally, decide};
-use interval_arithmetic::kind::Kind;
 use segments::filter::{Filter, parse_filter};
-use segments::literal::Bounds;
-use segments::segment::{Segment, parse_segment};
+use segments::segment::parse_segment;
 use std::fs::File;
 use std::io::{BufRead, BufReader, ErrorKind, Read};
 use std::process::ExitCode;
@@ -40,75 +38,27 @@ fn print_help(rt: &impl Print) -> io::Result<()> {
 
 usage: prune FILTER [FILE]
 
-FILTER   one comparison, with blanks between: COLUMN OPERATOR VALUE, as 'cpu > 90';
-         the operator is one of > >= < <= =
+FILTER   one comparison, with blanks between: COLUMN OPERATOR NUMBER, as 'cpu > 90';
+         the operator is one of > >= < <= =, the number a whole number of 64 bits
 FILE     the segments; standard input where there is none, or for -
 
-A value is written
-    90                      a whole number of 64 bits
-    @1700000000000000000    a stamp: its nanoseconds since 1970
-    100ns                   a span: its nanoseconds
-    0mo0d100ns              a step: its months, days and nanoseconds
-A number without a mark takes the sort of the column: beside stamps or spans it is so many nanoseconds.
-A step with months or days is refused, and no step can be compared.
-
 A line of FILE has a segment's name, then columns with the bounds of their values:
-    seg-0001 cpu=12..97 started=@1700000000000000000..@1700028545000000000 up=5ns..9ns mem=*..2048
-An end is a whole number, a stamp or a span, both of one sort, or * for open. Of a column that the line
-lacks, or with the bounds *..*, nothing is known; the filter's column may stand in a line once.
+    seg-0001 cpu=12..97 mem=*..2048 restarts=0..0
+An end is a whole number of 64 bits, or * for open. A column that the line lacks has open bounds;
+the filter's column may stand in a line once.
 A line that is blank or begins with # is passed over.
 
 For each segment a word and its name are printed, and then how many got each word:
     skip     no row of the segment can match
     read     some rows may match
     whole    every row of the segment matches
-A bad line, or one whose column has another sort than the filter's value, is told on standard error;
-the others are still decided, and the status is 1.
+A bad line is told on standard error; the others are still decided, and the status is 1.
 
 example: printf 'seg-1 cpu=12..97\\nseg-2 cpu=3..90\\n' | prune 'cpu > 90'"
     )
 }
 
-// The report with one bad line more.
-fn one_bad(report: Report) -> Report {
-    Report {
-        bad: report.bad.saturating_add(1),
-        ..report
-    }
-}
-
-// Decides a segment and prints the decision, or tells why it is refused.
-fn decide_segment(
-    rt: &HostRuntime,
-    filter: Filter<'_>,
-    number: u64,
-    segment: Segment<'_>,
-    report: Report,
-) -> io::Result<Report> {
-    let report = Report {
-        known: report.known || segment.known,
-        ..report
-    };
-    let value = filter.value_for(segment.bounds);
-    match decide(filter.comparison, segment.bounds, value) {
-        Ok(decision) => {
-            let word = decision.word();
-            let name = segment.name;
-            println!(rt; "{word:<5} {name}")?;
-            Ok(Report {
-                tally: report.tally.counting(decision),
-                ..report
-            })
-        }
-        Err(refusal) => {
-            let column = filter.column;
-            eprintln!(rt; "line {number}: {refusal}, in the column {column}")?;
-            Ok(one_bad(report))
-        }
-    }
-}
-
-// Decides a line's segment, or tells what is wrong with the line.
+// Decides a line and prints the decision, or tells what is wrong with it.
 fn decide_line(
     rt: &HostRuntime,
     filter: Filter<'_>,
@@ -118,10 +68,23 @@ fn decide_line(
 ) -> io::Result<Report> {
     match parse_segment(line, filter.column) {
         Ok(None) => Ok(report),
-        Ok(Some(segment)) => decide_segment(rt, filter, number, segment, report),
+        Ok(Some(segment)) => {
+            let decision = decide(filter.comparison, segment.bounds, filter.value);
+            let word = decision.word();
+            let name = segment.name;
+            println!(rt; "{word:<5} {name}")?;
+            Ok(Report {
+                tally: report.tally.counting(decision),
+                known: report.known || segment.known,
+                bad: report.bad,
+            })
+        }
         Err(fault) => {
             eprintln!(rt; "line {number}: {fault}")?;
-            Ok(one_bad(report))
+            Ok(Report {
+                bad: report.bad.saturating_add(1),
+                ..report
+            })
         }
     }
 }
@@ -136,7 +99,10 @@ fn tell_unread(
 ) -> Result<Report, Failed> {
     if e.kind() == ErrorKind::InvalidData {
         eprintln!(rt; "line {number}: expected text in UTF-8")?;
-        return Ok(one_bad(report));
+        return Ok(Report {
+            bad: report.bad.saturating_add(1),
+            ..report
+        });
     }
     eprintln!(rt; "prune: cannot read line {number} of {name}: {e}")?;
     Err(Failed::Told)
@@ -217,26 +183,10 @@ fn prune_by(rt: &HostRuntime, filter: Filter<'_>, path: &str) -> Result<(), Fail
     }
 }
 
-// Fails where the filter's value can be compared with nothing, as a step.
-fn check_comparable(rt: &HostRuntime, filter: Filter<'_>, text: &str) -> Result<(), Failed> {
-    match decide::<Bounds>(filter.comparison, None, filter.value) {
-        Ok(_) => Ok(()),
-        Err(refusal) => {
-            eprintln!(rt;
-                "prune: {refusal}, in `{text}`; a step cannot be compared, a span is written 100ns"
-            )?;
-            Err(Failed::Told)
-        }
-    }
-}
-
 // Reads the filter, and decides the segments by it.
 fn prune(rt: &HostRuntime, text: &str, path: &str) -> Result<(), Failed> {
     match parse_filter(text) {
-        Ok(filter) => {
-            check_comparable(rt, filter, text)?;
-            prune_by(rt, filter, path)
-        }
+        Ok(filter) => prune_by(rt, filter, path),
         Err(fault) => {
             eprintln!(rt; "prune: {fault}")?;
             Err(Failed::Told)

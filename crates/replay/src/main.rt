@@ -1,9 +1,7 @@
 // Replays vector files against the libraries: makes each call that a file has, and compares the answers.
 //
 //     words       reads a line: words, ends, ranges
-//     operators   reads an operator case
-//     spelled     whole numbers, time and joined kinds as a file writes their ranges
-//     calls       makes an operator case's call over each of these kinds
+//     operators   reads an operator case, and makes its call
 //
 // The vectors are answers of the Rust crate datafusion-physical-expr 55.0.0, run over stand-ins for what
 // it needs around it. A line has the input, the word `=`, and the answer to hold the libraries to; behind
@@ -13,19 +11,12 @@
 
 ghost use Rattle.std.specs.Prelude.{◌≡◌, ◌&&◌, ◌==◌};
 
-mod calls;
 mod operators;
-mod spelled;
 mod words;
 
 use anyhow::anyhow;
-use calls::answer;
-use interval_arithmetic::kind::Kind;
-use joined::Joined;
-use kinds::whole::WholeRange;
 use operators::{Answer, Question};
 use std::{env, fs, io};
-use time::TimeRange;
 use words::{Unreadable, Words};
 
 // How many lines that disagree are printed, and how many that cannot be read.
@@ -49,31 +40,16 @@ struct Tally {
     unreadable: u64,
 }
 
-// What comes of a line with the answer of one kind more: it has to be the expected one.
-fn judge(before: Outcome, expected: Answer, came: Option<Answer>) -> Outcome {
-    match (before, came) {
-        (Outcome::Disagreed(_, _), _) | (_, None) => before,
-        (_, Some(came)) if came == expected => Outcome::Agreed,
-        (_, Some(came)) => Outcome::Disagreed(expected, came),
-    }
-}
-
-// Asks whole numbers, time and both joined, as far as they have the line's ranges.
-fn ask_kinds(question: Question, expected: Answer) -> Outcome {
-    let whole = answer::<WholeRange>(question);
-    let time = answer::<TimeRange>(question);
-    let joined = answer::<Joined<WholeRange, TimeRange>>(question);
-    let outcome = judge(Outcome::PassedOver, expected, whole);
-    let outcome = judge(outcome, expected, time);
-    judge(outcome, expected, joined)
-}
-
 // Compares what the libraries answer with what the line expects.
 fn ask(question: Question, words: &mut Words<'_>) -> Result<Outcome, Unreadable> {
     words.pass("=")?;
     let expected = question.expected(words)?;
     words.finish()?;
-    Ok(ask_kinds(question, expected))
+    match question.answer() {
+        None => Ok(Outcome::PassedOver),
+        Some(came) if came == expected => Ok(Outcome::Agreed),
+        Some(came) => Ok(Outcome::Disagreed(expected, came)),
+    }
 }
 
 // Whether a line that begins with this word has no answer: a comment, or a part of a case around its calls.

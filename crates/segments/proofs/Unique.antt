@@ -1,14 +1,18 @@
--- A text is read in one way: its words, the name of a column, the ends of bounds. Assumes nothing.
-use Rattle.std.proofs.Common.{◌≡◌, ℕ, ◌<◌, Bool, true, false, not, ◌⊎◌, List, [], ◌∷◌, ◌++◌, length, Some, None, codes, Option, sym, refl, ap, ◌∙◌, subst, inl, inr, append_assoc, append-nil, arith, length-append}
+-- A text is read in one way: its words, the parts of a column, the ends of bounds. Assumes nothing.
+use Rattle.std.proofs.Common.{◌≡◌, ℕ, zero, suc, ◌+◌, ◌-◌, ◌<◌, ◌≤◌, Bool, true, false, cond, not, eqb, ◌⊎◌, List, [], ◌∷◌, ◌++◌, length, get_or, take, drop, ℤ, Some, None, codes, Option, sym, refl, ap, ◌∙◌, subst, inl, inr, append_assoc, append-nil, arith, length-append, length-drop}
 use lib.Utf8.{encode, encodes}
 use Rattle.std.specs.Str.Iter.{LacksByte}
+use Rattle.std.specs.Str.Parse.{AllDigits, IsNumeral, starts_with_minus, without_leading_sign}
 use Rattle.std.specs.Char.{is_whitespace, is_not_whitespace}
 use Rattle.std.specs.Str.{NonePass, NoCharPasses, EmptyOrStartsWithPassing}
-use Rattle.std.proofs.lemmas.Bool.{both_ways}
+use Rattle.std.proofs.lemmas.List.{get_or_append_left, get_or-append-add, get_or_at, get_or-drop, take_at, append_cancel_left}
+use Rattle.std.proofs.lemmas.Str.Parse.{digit_at}
+use Rattle.std.proofs.lemmas.Bool.{both_ways, cases_order, cases_lt, eqb-true, lt-ltb}
 use Rattle.std.proofs.lemmas.Str.{encode_same, length-encode, len_utf8_bounds}
-use Rattle.segments.specs.Literals.{Value, Bounds, ValueIs}
+use Rattle.interval_arithmetic.specs.Ends.{end_is}
+use Rattle.kinds.specs.declared.whole.WholeRange.{WholeRange}
+use Rattle.kinds.specs.Whole.{inside}
 use Rattle.segments.specs.Texts.{EndIs, BoundsAre, ColumnIs, First, Words}
-use Rattle.segments.proofs.Literals.{lacks_free, lacks_not, before_same, between_same, literal_same, literal_lacks}
 
 -- empty, or a character that passes p comes first
 abbrev Starts : (ℕ → Bool) → List ℕ → Type 0
@@ -83,27 +87,93 @@ words_same bs (u ∷ us) (v ∷ vs) h k =
     let w = same.0 in
     cc
 
-pub column_same : {w n m : List ℕ} {b d : Option Bounds} → ColumnIs w n b → ColumnIs w m d → n ≡ m
-column_same {w} {n} {m} h k = (before_same 61 n h.back m k.back (sym h.cut ∙ k.cut) h.plain k.plain).0
+-- what stands before the first c is one part of the text
+pub before_same : (c : ℕ) (bs xs ys us vs : List ℕ) → bs ≡ xs ++ (c ∷ ys) → bs ≡ us ++ (c ∷ vs) → LacksByte c xs → LacksByte c us → xs ≡ us
+before_same c bs xs ys us vs e f lx lu = by_length (cases_order (length xs) (length us))
+  where
+    shorter : (xs ys us vs : List ℕ) → bs ≡ xs ++ (c ∷ ys) → bs ≡ us ++ (c ∷ vs) → LacksByte c us → length xs < length us → ⊥
+    shorter xs ys us vs e f lu lt =
+        lu (length xs) lt (sym (get_or_append_left us (c ∷ vs) 0 (length xs) lt) ∙ (ap (λ z. get_or z (length xs) 0) (sym f ∙ e) ∙ get_or_at xs c ys 0 (length xs) refl))
 
-pub value_same : (bs : List ℕ) (v u : Value) → ValueIs bs v → ValueIs bs u → v ≡ u
-value_same bs v u h k = let l = literal_same bs h.0 k.0 h.1 k.1 in let p = h.2 in let q = k.2 in cc
+    by_length : (length xs ≡ length us) ⊎ ((length xs < length us) ⊎ (length us < length xs)) → xs ≡ us
+    by_length (inl h) = sym (take_at xs (c ∷ ys) (length us) h) ∙ (ap (take (length us)) (sym e ∙ f) ∙ take_at us (c ∷ vs) (length us) refl)
+    by_length (inr (inl h)) = absurd (shorter xs ys us vs e f lu h)
+    by_length (inr (inr h)) = absurd (shorter us vs xs ys f e lx h)
+
+pub column_same : {w n m : List ℕ} {r q : WholeRange} → ColumnIs w n r → ColumnIs w m q → n ≡ m
+column_same {w} {n} {m} a b = before_same 61 w n a.back m b.back a.cut b.cut a.plain b.plain
+
+-- digits after at most one byte hold no other byte than that
+after_lacks : (c n : ℕ) (bs : List ℕ) → c < 48 → n ≤ 1 → AllDigits 10 (drop n bs) → (n ≡ 1 → get_or bs 0 0 ≡ c → ⊥) → LacksByte c bs
+after_lacks c n bs small one d sign k l e = by_place (cases_lt k n)
+  where
+    by_place : (k < n) ⊎ (n ≤ k) → ⊥
+    by_place (inl lt) =
+        let z : k ≡ 0 = omega arith in
+        sign (omega arith) (subst (λ i. get_or bs i 0 ≡ c) z e)
+    by_place (inr le) =
+        let j : k ≡ n + (k - n) = omega arith in
+        let at : get_or (drop n bs) (k - n) 0 ≡ c = get_or-drop n bs (k - n) 0 ∙ (ap (λ i. get_or bs i 0) (sym j) ∙ e) in
+        let digit = digit_at (drop n bs) (k - n) d (simp length-drop (omega arith)) in
+        omega (arith, digit.0, at)
+
+number_lacks : (bs : List ℕ) → IsNumeral 10 (without_leading_sign bs) → LacksByte 46 bs
+number_lacks bs h = by_sign (starts_with_minus bs) refl (eqb (get_or bs 0 0) 43) refl h
+  where
+    by_sign : (m : Bool) → starts_with_minus bs ≡ m → (p : Bool) → eqb (get_or bs 0 0) 43 ≡ p → IsNumeral 10 (cond m (drop 1 bs) (drop (cond p 1 0) bs)) → LacksByte 46 bs
+    by_sign true e p f d = after_lacks 46 1 bs (omega arith) (omega arith) d.1 (λ _ q. omega (arith, q, eqb-true (get_or bs 0 0) 45 e))
+    by_sign false e true f d = after_lacks 46 1 bs (omega arith) (omega arith) d.1 (λ _ q. omega (arith, q, eqb-true (get_or bs 0 0) 43 f))
+    by_sign false e false f d = after_lacks 46 0 bs (omega arith) (omega arith) d.1 (λ q _. omega (arith, q))
+
+star_lacks : LacksByte 46 (codes "*")
+star_lacks zero l e = omega (arith, e)
+star_lacks (suc k) l e = omega arith
 
 -- an end holds no `.`
-end_lacks : (bs : List ℕ) (e : Option Value) → EndIs bs e → LacksByte 46 bs
-end_lacks bs None h = subst (LacksByte 46) (sym h) (lacks_free 46 (codes "*") refl)
-end_lacks bs (Some v) h = literal_lacks 46 refl refl refl refl refl bs h.0.0 h.0.1
+end_lacks : (bs : List ℕ) (e : Option ℤ) → EndIs bs e → LacksByte 46 bs
+end_lacks bs None h = subst (LacksByte 46) (sym h) star_lacks
+end_lacks bs (Some z) h = number_lacks bs h.0
 
--- an open end is no value
-star_none : (bs : List ℕ) (v : Value) → bs ≡ codes "*" → ValueIs bs v → ⊥
-star_none bs v e h = lacks_not 42 [] [] (subst (LacksByte 42) e (literal_lacks 42 refl refl refl refl refl bs h.0 h.1))
+star_none : IsNumeral 10 (without_leading_sign (codes "*")) → ⊥
+star_none h = omega (arith, h.1.0)
 
-pub end_same : (bs : List ℕ) (e d : Option Value) → EndIs bs e → EndIs bs d → e ≡ d
+pub end_same : (bs : List ℕ) (e d : Option ℤ) → EndIs bs e → EndIs bs d → e ≡ d
 end_same bs None None h k = refl
-end_same bs None (Some v) h k = absurd (star_none bs v h k.0)
-end_same bs (Some v) None h k = absurd (star_none bs v k h.0)
-end_same bs (Some v) (Some u) h k = ap Some (value_same bs v u h.0 k.0)
+end_same bs None (Some z) h k = absurd (star_none (subst (λ x. IsNumeral 10 (without_leading_sign x)) h k.0))
+end_same bs (Some z) None h k = absurd (star_none (subst (λ x. IsNumeral 10 (without_leading_sign x)) k h.0))
+end_same bs (Some z) (Some y) h k = ap Some (h.2 ∙ sym k.2)
 
 -- bounds are cut at one place
-pub bounds_cut : {bs xs ys : List ℕ} {b : Option Bounds} (h : BoundsAre bs b) → bs ≡ xs ++ (46 ∷ 46 ∷ ys) → (h.front ≡ xs) × (h.back ≡ ys)
-bounds_cut {bs} {xs} {ys} h e = between_same 46 46 h.front h.back xs ys (sym h.cut ∙ e) (end_lacks h.front h.low h.lower) (end_lacks h.back h.high h.upper)
+pub bounds_cut : {bs xs ys : List ℕ} {r : WholeRange} (b : BoundsAre bs r) → bs ≡ xs ++ (46 ∷ 46 ∷ ys) → (b.front ≡ xs) × (b.back ≡ ys)
+bounds_cut {bs} {xs} {ys} {r} b e = by_length (cases_order (length xs) (length b.front))
+  where
+    fs : List ℕ
+    fs = b.front
+
+    zs : List ℕ
+    zs = b.back
+
+    same : fs ++ (46 ∷ 46 ∷ zs) ≡ xs ++ (46 ∷ 46 ∷ ys)
+    same = sym b.cut ∙ e
+
+    by_length : (length xs ≡ length fs) ⊎ ((length xs < length fs) ⊎ (length fs < length xs)) → (fs ≡ xs) × (zs ≡ ys)
+    by_length (inl h) =
+        let front : fs ≡ xs = sym (take_at fs (46 ∷ 46 ∷ zs) (length fs) refl) ∙ (ap (take (length fs)) same ∙ take_at xs (46 ∷ 46 ∷ ys) (length fs) h) in
+        let rest = append_cancel_left xs (46 ∷ 46 ∷ zs) (46 ∷ 46 ∷ ys) (ap (λ v. v ++ (46 ∷ 46 ∷ zs)) (sym front) ∙ same) in
+        (front, cc)
+    by_length (inr (inl h)) =
+        absurd (end_lacks fs r.low b.lower (length xs) h
+        (sym (get_or_append_left fs (46 ∷ 46 ∷ zs) 0 (length xs) h) ∙ (ap (λ v. get_or v (length xs) 0) same ∙ get_or_at xs 46 (46 ∷ ys) 0 (length xs) refl)))
+    by_length (inr (inr h)) =
+        let k : ℕ = length xs - length fs - 1 in
+        let dot : get_or (xs ++ (46 ∷ 46 ∷ ys)) (length xs + 1) 0 ≡ 46 = get_or-append-add xs (46 ∷ 46 ∷ ys) 1 0 in
+        let long = ap length same ∙ length-append xs (46 ∷ 46 ∷ ys) in
+        let place : length xs + 1 ≡ length fs + (2 + k) = omega arith in
+        let at : get_or (fs ++ (46 ∷ 46 ∷ zs)) (length fs + (2 + k)) 0 ≡ get_or zs k 0 = get_or-append-add fs (46 ∷ 46 ∷ zs) (2 + k) 0 ∙ get_or-append-add (46 ∷ 46 ∷ []) zs k 0 in
+        absurd (end_lacks zs r.high b.upper k (omega (arith, long, length-append fs (46 ∷ 46 ∷ zs)))
+        (sym at ∙ (ap (λ i. get_or (fs ++ (46 ∷ 46 ∷ zs)) i 0) (sym place) ∙ (ap (λ v. get_or v (length xs + 1) 0) same ∙ dot))))
+
+-- a number that is read fits
+pub end_fits : (bs : List ℕ) (e : Option ℤ) → EndIs bs e → end_is inside e ≡ true
+end_fits bs None h = refl
+end_fits bs (Some z) h = subst (λ x. inside x ≡ true) (sym h.2) (lt-ltb _ _ h.1.sfits)

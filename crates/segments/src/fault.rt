@@ -1,8 +1,7 @@
 // What is wrong with a text: what was expected, and the part that it was expected in.
 ghost use Rattle.std.specs.Prelude.{◌≡◌, Some};
-ghost use Rattle.segments.specs.Faults.{sentence_of, refusal_of, fault_text};
+ghost use Rattle.segments.specs.Faults.{sentence_of, fault_text};
 
-use answers::refusal::{Ground, Refusal};
 use std::fmt;
 
 // What a segment's line or a filter should have.
@@ -17,8 +16,7 @@ pub enum Expected {
     Once,
     Filter,
     Operator,
-    Value,
-    Admitted,
+    Number,
 }
 
 impl Expected {
@@ -30,27 +28,13 @@ impl Expected {
             Expected::SegmentName => "a segment's name, with no `=`, before its columns",
             Expected::Column => "a column NAME=LOW..HIGH",
             Expected::ColumnName => "a column's name, with no `=`",
-            Expected::Bounds =>
-                "bounds LOW..HIGH, an end being a whole number, a stamp @N, a span Nns or *",
-            Expected::End => "ends that are whole numbers, stamps @N or spans Nns of 64 bits, or *",
-            Expected::Uncrossed => "ends of one sort, the lower at or below the upper",
+            Expected::Bounds => "bounds LOW..HIGH, an end being a whole number or *",
+            Expected::End => "ends that are whole numbers of 64 bits or *",
+            Expected::Uncrossed => "a lower end at or below the upper one",
             Expected::Once => "the filter's column once",
-            Expected::Filter => "a filter COLUMN OPERATOR VALUE, with blanks between",
+            Expected::Filter => "a filter COLUMN OPERATOR NUMBER, with blanks between",
             Expected::Operator => "an operator, one of > >= < <= =",
-            Expected::Value =>
-                "a whole number of 64 bits, a stamp @N, a span Nns or a step NmoNdNns",
-            Expected::Admitted => "a step of 0 months and 0 days, as 0mo0d100ns",
-        }
-    }
-
-    // The refusal that it is, if it is one.
-    pub fn refusal(self) -> Option<Refusal>
-        ensures { result ≡ refusal_of self }
-    {
-        match self {
-            Expected::Uncrossed => Some(Ground::CrossedEnds.at(0)),
-            Expected::Admitted => Some(Ground::LiteralRefused.at(0)),
-            _ => None,
+            Expected::Number => "a whole number of 64 bits",
         }
     }
 }
@@ -68,9 +52,6 @@ impl<'a> fmt::Display for Fault<'a> {
     fn fmt<W: fmt::Write>(&self, f: &mut fmt::Formatter<W>) -> fmt::Result {
         let sentence = self.expected.sentence();
         let text = self.text;
-        match self.expected.refusal() {
-            Some(refusal) => write!(f, "{refusal}; expected {sentence}, in `{text}`"),
-            None => write!(f, "expected {sentence}, in `{text}`"),
-        }
+        write!(f, "expected {sentence}, in `{text}`")
     }
 }

@@ -1,36 +1,17 @@
-// A filter: one comparison of a column with a value, as `cpu > 90` or `started < @1700000000000000000`.
-ghost use Rattle.std.specs.Prelude.{◌≡◌, [], ◌∷◌, MatchOption};
-ghost use Rattle.segments.specs.declared.fault.Expected.TheVariants.{Operator};
-ghost use Rattle.segments.specs.Literals.{value_for};
-ghost use Rattle.segments.specs.Texts.{Parsed, Said, Symbol, Words, FilterSays};
+// A filter: one comparison of a column with a number, as `cpu > 90`.
+ghost use Rattle.std.specs.Prelude.{[], ◌∷◌, MatchOption};
+ghost use Rattle.segments.specs.Texts.{Parsed, Said, Symbol, Reads, Words, FilterSays};
+ghost use Rattle.segments.specs.declared.fault.Expected.TheVariants.{Operator, Number};
 
 use crate::fault::{Expected, Fault};
-use crate::literal::{Bounds, Value, parse_value};
 use interval_arithmetic::compare::Comparison;
-use joined::Joined;
-use time::Time;
 
-// A column, how its values are compared, and with which value.
+// A column, how its numbers are compared, and with which number.
 #[derive(Clone, Copy)]
 pub struct Filter<'a> {
     pub column: &'a str,
     pub comparison: Comparison,
-    pub value: Value,
-}
-
-impl Filter<'_> {
-    // The value to compare with the bounds: a number without a mark is taken in the sort of stamps or spans.
-    pub fn value_for(self, bounds: Option<Bounds>) -> Value
-        ensures { result ≡ value_for self.entry.value bounds }
-    {
-        match (self.value, bounds) {
-            (Joined::First(nanoseconds), Some(Joined::Second(range))) => Joined::Second(Time {
-                sort: range.sort,
-                nanoseconds,
-            }),
-            (value, _) => value,
-        }
-    }
+    pub value: i64,
 }
 
 // The comparison of an operator.
@@ -44,6 +25,16 @@ fn parse_operator(text: &str) -> Result<Comparison, Expected>
         "<=" => Ok(Comparison::LtEq),
         "=" => Ok(Comparison::Eq),
         _ => Err(Expected::Operator),
+    }
+}
+
+// A whole number of 64 bits.
+fn parse_number(text: &str) -> Result<i64, Expected>
+    ensures { Parsed (Reads text.now) Number result }
+{
+    match text.parse::<i64>() {
+        Ok(n) => Ok(n),
+        Err(_) => Err(Expected::Number),
     }
 }
 
@@ -66,9 +57,9 @@ fn filter_of<'a>(
     text: &'a str,
     column: &'a str,
     operator: &'a str,
-    value: &'a str,
+    number: &'a str,
 ) -> Result<Filter<'a>, Fault<'a>>
-    requires { Words text.now (column.now ∷ operator.now ∷ value.now ∷ []) }
+    requires { Words text.now (column.now ∷ operator.now ∷ number.now ∷ []) }
     ensures { Said (FilterSays text.now) result }
 {
     if column.contains('=') {
@@ -77,7 +68,7 @@ fn filter_of<'a>(
             text: column,
         });
     }
-    match (parse_operator(operator), parse_value(value)) {
+    match (parse_operator(operator), parse_number(number)) {
         (Ok(comparison), Ok(value)) => Ok(Filter {
             column,
             comparison,
@@ -89,17 +80,17 @@ fn filter_of<'a>(
         }),
         (_, Err(expected)) => Err(Fault {
             expected,
-            text: value,
+            text: number,
         }),
     }
 }
 
-// The filter COLUMN OPERATOR VALUE.
+// The filter COLUMN OPERATOR NUMBER.
 pub fn parse_filter(text: &str) -> Result<Filter<'_>, Fault<'_>>
     ensures { Said (FilterSays text.now) result }
 {
     match three_words(text) {
-        Some((column, operator, value)) => filter_of(text, column, operator, value),
+        Some((column, operator, number)) => filter_of(text, column, operator, number),
         None => Err(Fault {
             expected: Expected::Filter,
             text,

@@ -1,53 +1,36 @@
-// A line of a segment: its name, then columns with bounds, as `seg-0001 cpu=12..97 up=5ns..9ns mem=*..2048`.
-ghost use Rattle.std.specs.Prelude.{◌≡◌, MatchBool};
+// A line of a segment: its name, then columns with bounds, as `seg-0001 cpu=12..97 mem=*..2048`.
+ghost use Rattle.std.specs.Prelude.{MatchBool};
 ghost use Rattle.std.specs.Str.Iter.{split_whitespace_rest};
 ghost use Rattle.segments.specs.declared.fault.Expected.TheVariants.{End};
-ghost use Rattle.segments.specs.Texts.{Parsed, Said, EndIs, bounds_of, BoundsAre, ColumnRead, BoundsRead, SegmentSays, Comment, Content, LineRead};
+ghost use Rattle.segments.specs.Texts.{Parsed, Said, EndIs, BoundsAre, ColumnRead, BoundsRead, SegmentSays, Comment, Content, LineRead};
 
 use crate::fault::{Expected, Fault};
-use crate::literal::{Bounds, Value, parse_value};
-use answers::refusal::Refusal;
-use interval_arithmetic::ends::try_new;
-use interval_arithmetic::kind::{Kind, Ranges};
+use kinds::whole::WholeRange;
 use std::str::SplitWhitespace;
 
-// A segment's name, whether the line has one column, and its bounds: none where nothing is known of it.
+// A segment's name, and the bounds of one column in it: open where the line does not have the column.
 #[derive(Clone, Copy)]
 pub struct Segment<'a> {
     pub name: &'a str,
     pub known: bool,
-    pub bounds: Option<Bounds>,
+    pub bounds: WholeRange,
 }
 
-// An end: `*` is open, else a value of a sort that a column may have.
-fn parse_end(text: &str) -> Result<Option<Value>, Expected>
+// An end: `*` is open, else a whole number of 64 bits.
+fn parse_end(text: &str) -> Result<Option<i64>, Expected>
     ensures { Parsed (EndIs text.now) End result }
 {
     if text == "*" {
         return Ok(None);
     }
-    let Ok(value) = parse_value(text) else {
-        return Err(Expected::End);
-    };
-    if Bounds::columns(Bounds::sort_of(value)) {
-        Ok(Some(value))
-    } else {
-        Err(Expected::End)
-    }
-}
-
-// The bounds of two ends, in the sort of one; none where both are open.
-fn bounds_of(low: Option<Value>, high: Option<Value>) -> Result<Option<Bounds>, Refusal>
-    ensures { result ≡ bounds_of low high }
-{
-    match low.or(high) {
-        Some(end) => Ok(Some(try_new::<Bounds>(Bounds::sort_of(end), low, high)?)),
-        None => Ok(None),
+    match text.parse::<i64>() {
+        Ok(n) => Ok(Some(n)),
+        Err(_) => Err(Expected::End),
     }
 }
 
 // Bounds LOW..HIGH.
-fn parse_bounds(text: &str) -> Result<Option<Bounds>, Expected>
+fn parse_bounds(text: &str) -> Result<WholeRange, Expected>
     ensures { Said (BoundsAre text.now) result }
 {
     let Some((low, high)) = text.split_once("..") else {
@@ -55,14 +38,14 @@ fn parse_bounds(text: &str) -> Result<Option<Bounds>, Expected>
     };
     let low = parse_end(low)?;
     let high = parse_end(high)?;
-    match bounds_of(low, high) {
+    match WholeRange::try_new(low, high) {
         Ok(bounds) => Ok(bounds),
         Err(_) => Err(Expected::Uncrossed),
     }
 }
 
 // A column's name and its bounds.
-fn parse_column(word: &str) -> Result<(&str, Option<Bounds>), Fault<'_>>
+fn parse_column(word: &str) -> Result<(&str, WholeRange), Fault<'_>>
     ensures { ColumnRead word.now result }
 {
     let Some((name, text)) = word.split_once('=') else {
@@ -87,10 +70,7 @@ fn parse_column(word: &str) -> Result<(&str, Option<Bounds>), Fault<'_>>
 }
 
 // The bounds that the words give the column; none where no word names it.
-fn bounds_in<'a>(
-    words: SplitWhitespace<'a>,
-    column: &str,
-) -> Result<Option<Option<Bounds>>, Fault<'a>>
+fn bounds_in<'a>(words: SplitWhitespace<'a>, column: &str) -> Result<Option<WholeRange>, Fault<'a>>
     ensures { BoundsRead (split_whitespace_rest words.entry) column.now result }
 {
     let mut found = None;
@@ -135,10 +115,14 @@ fn segment_of<'a>(line: &'a str, column: &str) -> Result<Segment<'a>, Fault<'a>>
         });
     }
     let given = bounds_in(words, column)?;
+    let open = WholeRange {
+        low: None,
+        high: None,
+    };
     Ok(Segment {
         name,
         known: given.is_some(),
-        bounds: given.flatten(),
+        bounds: given.unwrap_or(open),
     })
 }
 

@@ -1,7 +1,7 @@
 use Rattle.std.proofs.Common.{sym, subst, arith, rules}
 use Rattle.std.specs.Str.Iter.{LacksByte}
-use Rattle.segments.specs.Literals.{ValueIs}
-use Rattle.segments.proofs.Reading.{no_value, filter_column, filter_operator, filter_last}
+use Rattle.segments.specs.Texts.{Reads}
+use Rattle.segments.proofs.Reading.{filter_column, filter_operator, filter_number}
 use Rattle.std.proofs.lemmas.Str.Pattern.{contains_char}
 use Rattle.std.proofs.lemmas.Bool.{both_ways}
 use Rattle.segments.proofs.filter.filter_of.Goals as goal
@@ -10,7 +10,7 @@ pub returns-in-Ok-Ok : goal.returns-in-Ok-Ok
 returns-in-Ok-Ok c =
     let has = contains_char 61 c.args.column.now _ c.contains.ensures.cases (omega arith) in
     record {
-      last = c.args.value.now;
+      number = c.args.number.now;
       words = rw c.in-Ok-Ok.ensures at c.requires;
       plain = λ k l e. both_ways _ c.if-contains.false (has.1 k l e);
       value = search rules;
@@ -26,4 +26,4 @@ pub returns-in-Err-default : goal.returns-in-Err-default
 returns-in-Err-default c = λ f k. c.in-Err-default.ensures.1 f.comparison (sym (filter_operator c.requires f k))
 
 pub returns-in_default-Err : goal.returns-in_default-Err
-returns-in_default-Err c = λ f k. no_value c.args.value.now _ c.in_default-Err.ensures' f.value (subst (λ x. ValueIs x f.value) (filter_last c.requires f k) k.value)
+returns-in_default-Err c = λ f k. c.in_default-Err.ensures'.1 f.value (subst (λ x. Reads x f.value) (filter_number c.requires f k) k.value)

@@ -20,7 +20,7 @@ returns c =
       given = c.in_ok-given.given;
       gives = rest.2;
       known = c.is_some.ensures;
-      bounds = c.flatten.ensures;
+      bounds = c.unwrap_or.ensures;
     }
 
 pub returns-in_default : goal.returns-in_default

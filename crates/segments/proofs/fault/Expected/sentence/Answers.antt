@@ -29,8 +29,5 @@ returns-in-Filter c = ap sentence_of (sym c.in-Filter.is)
 pub returns-in-Operator : goal.returns-in-Operator
 returns-in-Operator c = ap sentence_of (sym c.in-Operator.is)
 
-pub returns-in-Value : goal.returns-in-Value
-returns-in-Value c = ap sentence_of (sym c.in-Value.is)
-
-pub returns-in-Admitted : goal.returns-in-Admitted
-returns-in-Admitted c = ap sentence_of (sym c.in-Admitted.is)
+pub returns-in-Number : goal.returns-in-Number
+returns-in-Number c = ap sentence_of (sym c.in-Number.is)
