@@ -9,35 +9,35 @@ use std::fmt;
 #[derive(Clone, Copy, Debug, PartialEq, Eq)]
 pub enum Ground {
     // A range's ends differ in sort, or the lower is above the upper.
-    CrossedEnds,
+    CrossedEnds = 1,
     // The filter has no record or more than 256.
-    RecordCount,
+    RecordCount = 2,
     // A child's place is not lower than its parent's, or a literal's place is outside the literals.
-    RecordPlace,
+    RecordPlace = 3,
     // A context has no boundary or more than 64.
-    BoundaryCount,
+    BoundaryCount = 4,
     // A boundary's column is outside the schema or in an earlier boundary.
-    BoundaryColumn,
+    BoundaryColumn = 5,
     // A distinct count is above 2^53.
-    DistinctCount,
+    DistinctCount = 6,
     // A boundary has no range.
-    NoRange,
+    NoRange = 7,
     // No operator is made of the record.
-    NoOperator,
+    NoOperator = 8,
     // A column is outside the schema, or its sort fits no column.
-    ColumnSort,
+    ColumnSort = 9,
     // The kind does not admit the literal.
-    LiteralRefused,
+    LiteralRefused = 10,
     // The sorts do not fit the operator.
-    SortsUnfit,
+    SortsUnfit = 11,
     // A list that the caller lends is too short.
-    ListTooShort,
+    ListTooShort = 12,
     // A number belongs to no node present.
-    NoSuchNode,
+    NoSuchNode = 13,
     // A range or target has another sort than its node.
-    OtherSort,
+    OtherSort = 14,
     // A visited disjunction is TRUE.
-    TrueDisjunction,
+    TrueDisjunction = 15,
 }
 
 // A ground, and the one position that it speaks of.
@@ -57,35 +57,23 @@ impl Ground {
             position,
         }
     }
+}
 
-    // The number by which the ground is known, 1 to 15.
-    fn number(self) -> u8
-        ensures { result ≡ number self }
-    {
-        match self {
-            Ground::CrossedEnds => 1,
-            Ground::RecordCount => 2,
-            Ground::RecordPlace => 3,
-            Ground::BoundaryCount => 4,
-            Ground::BoundaryColumn => 5,
-            Ground::DistinctCount => 6,
-            Ground::NoRange => 7,
-            Ground::NoOperator => 8,
-            Ground::ColumnSort => 9,
-            Ground::LiteralRefused => 10,
-            Ground::SortsUnfit => 11,
-            Ground::ListTooShort => 12,
-            Ground::NoSuchNode => 13,
-            Ground::OtherSort => 14,
-            Ground::TrueDisjunction => 15,
-        }
+// The number by which the ground is known, 1 to 15.
+impl From<Ground> for u8 {
+    ghost from_gives = { λ g n. n ≡ number g };
+
+    fn from(ground: Ground) -> u8 {
+        ground as u8
     }
+}
 
-    // What is wrong, for a person to act on.
-    fn message(self) -> &'static str
-        ensures { result.now ≡ message self }
-    {
-        match self {
+// What is wrong, for a person to act on.
+impl fmt::Display for Ground {
+    ghost output = { λ g. Some (message g) };
+
+    fn fmt<W: fmt::Write>(&self, f: &mut fmt::Formatter<W>) -> fmt::Result {
+        f.write_str(match self {
             Ground::CrossedEnds =>
                 "the range's ends differ in sort or the lower is above the upper",
             Ground::RecordCount => "the filter needs 1 to 256 records",
@@ -103,7 +91,7 @@ impl Ground {
             Ground::NoSuchNode => "no node present has this number",
             Ground::OtherSort => "the range has another sort than its node",
             Ground::TrueDisjunction => "a disjunction is TRUE: neither side can be narrowed alone",
-        }
+        })
     }
 }
 
@@ -112,7 +100,7 @@ impl Refusal {
     pub fn number(self) -> u8
         ensures { result ≡ number self.ground }
     {
-        self.ground.number()
+        u8::from(self.ground)
     }
 }
 
@@ -120,10 +108,8 @@ impl fmt::Display for Refusal {
     ghost output = { λ r. Some (refusal_text r) };
 
     fn fmt<W: fmt::Write>(&self, f: &mut fmt::Formatter<W>) -> fmt::Result {
-        let number = self.number();
-        let position = self.position;
-        let message = self.ground.message();
-        write!(f, "refusal {number} at {position}: {message}")
+        let Refusal { ground, position } = *self;
+        write!(f, "refusal {} at {position}: {ground}", self.number())
     }
 }
 

@@ -47,11 +47,10 @@ impl Truth {
         ensures value { result ≡ truth_contains self other }
         ensures rule { Contains Told truth_meet ◌≡◌ self other result }
     {
-        match (self, other) {
-            (Truth::Unsure, _) => Truth::True,
-            (_, Truth::Unsure) => Truth::Unsure,
-            (Truth::True, Truth::True) | (Truth::False, Truth::False) => Truth::True,
-            _ => Truth::False,
+        match self.intersect(other) {
+            None => Truth::False,
+            Some(shared) if shared == other => Truth::True,
+            Some(_) => Truth::Unsure,
         }
     }
 }

@@ -42,6 +42,18 @@ high_end leq l None = None
 high_end leq None (Some b) = Some b
 high_end leq (Some a) (Some b) = Some (cond (leq a b) b a)
 
+-- of two ends the one that `pick` takes, a value before an open one
+abbrev pub tighter : {V : Type 0} → (V → V → V) → Option V → Option V → Option V
+tighter pick None b = b
+tighter pick (Some a) None = Some a
+tighter pick (Some a) (Some b) = Some (pick a b)
+
+-- the same, where `picks a b c` says that c is taken of a and b
+abbrev pub Tighter : {V : Type 0} → (V → V → V → Type 0) → Option V → Option V → Option V → Type 0
+Tighter picks None b r = r ≡ b
+Tighter picks (Some a) None r = r ≡ Some a
+Tighter {V = V} picks (Some a) (Some b) r = (c : V) × (r ≡ Some c) × picks a b c
+
 module _ {V R S : Type 0} (o : Order V R S) where
   -- at or above a lower end; an open one is below every value
   abbrev pub Above : Option V → V → Type 0
@@ -85,15 +97,11 @@ module _ {V R S : Type 0} (o : Order V R S) where
 
   -- the higher of two lower ends, a value before an open one
   abbrev pub higher : Option V → Option V → Option V
-  higher None b = b
-  higher (Some a) None = Some a
-  higher (Some a) (Some b) = Some (cond (o.leq a b) b a)
+  higher = tighter (λ a b. cond (o.leq a b) b a)
 
   -- the lower of two upper ends, a value before an open one
   abbrev pub lesser : Option V → Option V → Option V
-  lesser None b = b
-  lesser (Some a) None = Some a
-  lesser (Some a) (Some b) = Some (cond (o.leq a b) a b)
+  lesser = tighter (λ a b. cond (o.leq a b) a b)
 
   -- what two ranges share; shut, so that callers go by the lemmas of `proofs/Meets`
   unfoldable pub meet : R → R → Option R
@@ -107,7 +115,7 @@ module _ {V R S : Type 0} (o : Order V R S) where
   same_end None None = true
   same_end None (Some b) = false
   same_end (Some a) None = false
-  same_end (Some a) (Some b) = o.leq a b && o.leq b a
+  same_end (Some a) (Some b) = o.equal a b
 
   abbrev pub same_ends : R → R → Bool
   same_ends a b = same_end (o.lower a) (o.lower b) && same_end (o.upper a) (o.upper b)

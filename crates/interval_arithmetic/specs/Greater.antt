@@ -1,10 +1,22 @@
 -- The ranges that `left > right` leaves, or `left >= right`. Assumes nothing.
-use Rattle.std.specs.Prelude.{Bool, true, false, cond, [], ◌∷◌, Some, None, Option}
+use Rattle.std.specs.Prelude.{◌≡◌, Bool, true, false, cond, [], ◌∷◌, Some, None, Option}
 use Rattle.std.specs.Option.{option_map}
 use Rattle.interval_arithmetic.specs.Model.{Order, Operations}
 use Rattle.interval_arithmetic.specs.Ends.{Within, Inside}
 use Rattle.interval_arithmetic.specs.Compare.{Exceeds}
 use Rattle.interval_arithmetic.specs.Sound.{OfTwo, both, Narrows}
+
+-- an end, moved to the step from the other side's where it reaches that; absent if there is no step
+abbrev pub moved : {V : Type 0} → (V → V → Bool) → (V → Option V) → Option V → Option V → Option (Option V)
+moved reaches step own None = Some own
+moved reaches step None (Some b) = option_map Some (step b)
+moved reaches step (Some a) (Some b) = cond (reaches a b) (option_map Some (step b)) (Some (Some a))
+
+-- the same, where `reaches` and `steps` say what is answered
+abbrev pub Moved : {V : Type 0} → (V → V → Bool → Type 0) → (V → Option V → Type 0) → Option V → Option V → Option (Option V) → Type 0
+Moved reaches steps own None r = r ≡ Some own
+Moved {V = V} reaches steps None (Some b) r = (n : Option V) × steps b n × (r ≡ option_map Some n)
+Moved {V = V} reaches steps (Some a) (Some b) r = (t : Bool) × reaches a b t × ((n : Option V) × (t ≡ true → steps b n) × (r ≡ cond t (option_map Some n) (Some (Some a))))
 
 module _ {V R S L : Type 0} (o : Order V R S) (m : Operations V R S L) where
   -- the least value that a greater one may have, and the greatest that a smaller one may have
@@ -16,15 +28,11 @@ module _ {V R S L : Type 0} (o : Order V R S) (m : Operations V R S L) where
 
   -- a lower end, raised by the other side's; absent if no value is left
   abbrev pub raised : Bool → Option V → Option V → Option (Option V)
-  raised strict own None = Some own
-  raised strict None (Some b) = option_map Some (step_up strict b)
-  raised strict (Some a) (Some b) = cond (o.leq a b) (option_map Some (step_up strict b)) (Some (Some a))
+  raised strict = moved o.leq (step_up strict)
 
   -- an upper end, brought down by the other side's; absent if no value is left
   abbrev pub lowered : Bool → Option V → Option V → Option (Option V)
-  lowered strict own None = Some own
-  lowered strict None (Some b) = option_map Some (step_down strict b)
-  lowered strict (Some a) (Some b) = cond (o.leq b a) (option_map Some (step_down strict b)) (Some (Some a))
+  lowered strict = moved (λ a b. o.leq b a) (step_down strict)
 
   abbrev pub pair_up : Option R → Option R → Option (R × R)
   pair_up None r = None

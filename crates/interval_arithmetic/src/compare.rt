@@ -1,12 +1,12 @@
 // What a comparison of two ranges of a kind is known to be.
 ghost use Rattle.std.specs.Prelude.{◌≡◌};
-ghost use Rattle.interval_arithmetic.specs.Compare.{is_over, all_over, over_truth, equal_truth, compare_of, Compared};
+ghost use Rattle.interval_arithmetic.specs.Compare.{is_over, all_over, over_truth, equal_truth, compare_ends, compare_of, Compared};
 
 use crate::kind::Ranges;
 use answers::truth::Truth;
 
 // The comparisons of two numbers of one sort.
-#[derive(Clone, Copy, PartialEq, Eq)]
+#[derive(Clone, Copy, Debug, PartialEq, Eq)]
 pub enum Comparison {
     Gt,
     GtEq,
@@ -30,10 +30,9 @@ fn over<K: Ranges>(strict: bool, a: K::Value, b: K::Value) -> bool
 fn all_over<K: Ranges>(strict: bool, a: K, b: K) -> bool
     ensures { result ≡ all_over K.Ranges.order strict (K.Ranges.order.lower a) (K.Ranges.order.upper b) }
 {
-    match (a.lower(), b.upper()) {
-        (Some(low), Some(high)) => over::<K>(strict, low, high),
-        _ => false,
-    }
+    a.lower()
+        .zip(b.upper())
+        .is_some_and(|(low, high)| over::<K>(strict, low, high))
 }
 
 fn greater_truth<K: Ranges>(strict: bool, a: K, b: K) -> Truth
@@ -60,13 +59,17 @@ fn equal_truth<K: Ranges>(a: K, b: K) -> Truth
     }
 }
 
-// Hands on an answer, with what it means for the values.
-fn comparing<K: Ranges>(comparison: Comparison, left: K, right: K, answer: Truth) -> Truth
-    requires { answer ≡ compare_of K.Ranges.order comparison left right }
-    ensures value { result ≡ compare_of K.Ranges.order comparison left right }
-    ensures holds { Compared K.Ranges.order comparison left right result }
+// Where the sorts are the same.
+fn compare_ends<K: Ranges>(comparison: Comparison, left: K, right: K) -> Truth
+    ensures { result ≡ compare_ends K.Ranges.order comparison left right }
 {
-    answer
+    match comparison {
+        Comparison::Gt => greater_truth(true, left, right),
+        Comparison::GtEq => greater_truth(false, left, right),
+        Comparison::Lt => greater_truth(true, right, left),
+        Comparison::LtEq => greater_truth(false, right, left),
+        Comparison::Eq => equal_truth(left, right),
+    }
 }
 
 // TRUE where the comparison holds for every two values that the ends allow, FALSE where for none, else
@@ -75,16 +78,9 @@ pub fn compare<K: Ranges>(comparison: Comparison, left: K, right: K) -> Truth
     ensures value { result ≡ compare_of K.Ranges.order comparison left right }
     ensures holds { Compared K.Ranges.order comparison left right result }
 {
-    let answer = if K::same_sort(left.sort(), right.sort()) {
-        match comparison {
-            Comparison::Gt => greater_truth(true, left, right),
-            Comparison::GtEq => greater_truth(false, left, right),
-            Comparison::Lt => greater_truth(true, right, left),
-            Comparison::LtEq => greater_truth(false, right, left),
-            Comparison::Eq => equal_truth(left, right),
-        }
+    if left.sort() == right.sort() {
+        compare_ends(comparison, left, right)
     } else {
         Truth::Unsure
-    };
-    comparing(comparison, left, right, answer)
+    }
 }

@@ -4,7 +4,7 @@ ghost use Rattle.interval_arithmetic.specs.Model.{Order, Operations};
 ghost use Rattle.interval_arithmetic.specs.Laws.{OrderLaws, Laws};
 
 // The operations on two numbers.
-#[derive(Clone, Copy)]
+#[derive(Clone, Copy, Debug, PartialEq, Eq)]
 pub enum Arithmetic {
     Plus,
     Minus,
@@ -13,17 +13,14 @@ pub enum Arithmetic {
 // The ranges of a kind, on the type of its ranges: its sorts, the order of the values, and the ends.
 // None of the questions asks anything of its caller, and equal ones get equal answers.
 pub trait Ranges: Copy {
-    type Value: Copy;
+    type Value: Copy + Eq;
 
-    type Sort: Copy;
+    type Sort: Copy + Eq;
 
     ghost order: { Order Self.Value Self Self.Sort };
 
     fn sort_of(v: Self::Value) -> Self::Sort
         ensures { result ≡ order.sort_of v };
-
-    fn same_sort(s: Self::Sort, t: Self::Sort) -> bool
-        ensures { result ≡ order.same s t };
 
     // Whether `a` is at or below `b`, of one sort.
     fn at_most(a: Self::Value, b: Self::Value) -> bool
@@ -44,6 +41,11 @@ pub trait Ranges: Copy {
         ensures { result ≡ order.make s low high };
 
     ghost orderly: { OrderLaws order };
+
+    // `==` tells equal sorts and equal values.
+    ghost same_sorts: { (s t : Self.Sort) → Self.Sort.eq s t ≡ order.same s t };
+
+    ghost equal_values: { (v w : Self.Value) → Self.Value.eq v w ≡ order.equal v w };
 }
 
 // The operations of a kind on its ranges and values, and the questions that an analysis asks of it.

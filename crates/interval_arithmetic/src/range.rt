@@ -8,13 +8,13 @@ use crate::kind::Ranges;
 use answers::truth::Truth;
 
 // The sort of a range, a column or a literal: Boolean, or a sort of the kind.
-#[derive(Clone, Copy)]
+#[derive(Clone, Copy, Debug)]
 pub enum DataType<S> {
     Boolean,
     Number(S),
 }
 
-#[derive(Clone, Copy)]
+#[derive(Clone, Copy, Debug)]
 pub enum Range<K> {
     Boolean(Truth),
     Number(K),
@@ -43,25 +43,16 @@ impl<K: Ranges> Range<K> {
         }
     }
 
-    // Hands on an answer, with what it means for the values.
-    fn containing(self, other: Range<K>, answer: Truth) -> Truth
-        requires { answer ≡ range_contains K.Ranges.order self other }
-        ensures value { result ≡ range_contains K.Ranges.order self other }
-        ensures rule { Contains (Holds K.Ranges.order) (range_meet K.Ranges.order) (SameRange K.Ranges.order) self other result }
-    {
-        answer
-    }
-
     // TRUE where what the two share is `other`, FALSE where they share nothing, else UNSURE.
+    #[tactic(auto, using(crate::proofs::Lifts::range_contains_rule))]
     pub fn contains(self, other: Range<K>) -> Truth
         ensures value { result ≡ range_contains K.Ranges.order self other }
         ensures rule { Contains (Holds K.Ranges.order) (range_meet K.Ranges.order) (SameRange K.Ranges.order) self other result }
     {
-        let answer = match (self, other) {
+        match (self, other) {
             (Range::Boolean(a), Range::Boolean(b)) => a.contains(b),
             (Range::Number(a), Range::Number(b)) => contains(a, b),
             _ => Truth::False,
-        };
-        self.containing(other, answer)
+        }
     }
 }
