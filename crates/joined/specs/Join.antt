@@ -1,5 +1,5 @@
 -- Two kinds side by side: each question goes to the kind that it is about. Assumes nothing.
-use Rattle.std.specs.Prelude.{false, Some, None, Option}
+use Rattle.std.specs.Prelude.{◌≡◌, false, Some, None, Option}
 use Rattle.std.specs.Option.{option_map}
 use Rattle.interval_arithmetic.specs.Model.{Order, Operations}
 use Rattle.joined.specs.declared.Joined.{Joined}
@@ -28,6 +28,20 @@ maybe f g = either (λ x. option_map First (f x)) (λ y. option_map Second (g y)
 -- what two things of one kind may have
 abbrev pub maybe_two : {A B C D : Type 0} → (A → A → Option C) → (B → B → Option D) → Joined A B → Joined A B → Option (Joined C D)
 maybe_two f g = together None (λ x y. option_map First (f x y)) (λ x y. option_map Second (g x y))
+
+-- what is of the first kind, and of the second
+abbrev pub first_of : {A B : Type 0} → Joined A B → Option A
+first_of (First x) = Some x
+first_of (Second y) = None
+
+abbrev pub second_of : {A B : Type 0} → Joined A B → Option B
+second_of (First x) = None
+second_of (Second y) = Some y
+
+-- an end as one of a kind, where `parts x y` says that y is what x is of that kind
+abbrev pub EndIn : {X Y : Type 0} → (X → Option Y → Type 0) → Option X → Option (Option Y) → Type 0
+EndIn parts None r = r ≡ Some None
+EndIn {Y = Y} parts (Some x) r = (y : Option Y) × parts x y × (r ≡ option_map Some y)
 
 -- an end as one of the first kind; none where it is a value of the second
 abbrev pub first_end : {A B : Type 0} → Option (Joined A B) → Option (Option A)
@@ -58,6 +72,7 @@ joined_order a b = record {
   is = together false a.is b.is;
   sort_of = each a.sort_of b.sort_of;
   same = together false a.same b.same;
+  equal = together false a.equal b.equal;
   leq = together false a.leq b.leq;
   sort = each a.sort b.sort;
   lower = maybe a.lower b.lower;

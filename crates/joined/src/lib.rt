@@ -7,9 +7,9 @@
 // The definitions stand in specs/Join.antt.
 #![tactic(auto)]
 
-ghost use Rattle.std.specs.Prelude.{◌≡◌};
-ghost use Rattle.std.specs.Option.{option_map};
-ghost use Rattle.joined.specs.Join.{first_end, second_end, make_of, joined_order, joined};
+ghost use Rattle.std.specs.Prelude.{◌≡◌, None, Some, refl};
+ghost use Rattle.joined.specs.Join.{first_of, second_of, EndIn, make_of, joined_order, joined};
+ghost use Rattle.joined.specs.declared.Joined.TheVariants.{First, Second};
 ghost use Rattle.joined.specs.JoinLaws.{joined_order_laws, joined_laws};
 
 use interval_arithmetic::kind::{Arithmetic, Kind, Ranges};
@@ -21,45 +21,36 @@ pub enum Joined<A, B> {
     Second(B),
 }
 
-// What there is of the first kind, as one of the two.
-fn first<A: Copy, B: Copy>(x: Option<A>) -> Option<Joined<A, B>>
-    ensures { result ≡ option_map Joined.First x }
-{
-    match x {
-        Some(x) => Some(Joined::First(x)),
-        None => None,
+impl<A: Copy, B: Copy> Joined<A, B> {
+    // What is of the first kind.
+    pub fn first(self) -> Option<A>
+        ensures { result ≡ first_of self }
+    {
+        match self {
+            Joined::First(x) => Some(x),
+            Joined::Second(_) => None,
+        }
+    }
+
+    // What is of the second kind.
+    pub fn second(self) -> Option<B>
+        ensures { result ≡ second_of self }
+    {
+        match self {
+            Joined::First(_) => None,
+            Joined::Second(x) => Some(x),
+        }
     }
 }
 
-// What there is of the second kind, as one of the two.
-fn second<A: Copy, B: Copy>(x: Option<B>) -> Option<Joined<A, B>>
-    ensures { result ≡ option_map Joined.Second x }
-{
-    match x {
-        Some(x) => Some(Joined::Second(x)),
-        None => None,
-    }
-}
-
-// The end as one of the first kind; none where it is a value of the second.
-fn first_end<A: Copy, B: Copy>(end: Option<Joined<A, B>>) -> Option<Option<A>>
-    ensures { result ≡ first_end end }
+// The end as one of the kind that `part` takes; none where it is a value of the other.
+fn end_in<X: Copy, Y, F: FnOnce(X) -> Option<Y>>(end: Option<X>, part: F) -> Option<Option<Y>>
+    requires { F.IsAlwaysCallable part }
+    ensures { EndIn (F.post part) end result }
 {
     match end {
+        Some(x) => Some(Some(part(x)?)),
         None => Some(None),
-        Some(Joined::First(x)) => Some(Some(x)),
-        Some(Joined::Second(_)) => None,
-    }
-}
-
-// The end as one of the second kind; none where it is a value of the first.
-fn second_end<A: Copy, B: Copy>(end: Option<Joined<A, B>>) -> Option<Option<B>>
-    ensures { result ≡ second_end end }
-{
-    match end {
-        None => Some(None),
-        Some(Joined::First(_)) => None,
-        Some(Joined::Second(x)) => Some(Some(x)),
     }
 }
 
@@ -72,18 +63,14 @@ impl<A: Ranges, B: Ranges> Ranges for Joined<A, B> {
 
     ghost orderly = { joined_order_laws A.Ranges.orderly B.Ranges.orderly };
 
+    ghost same_sorts = { elim [ First s ↦ elim [ First t ↦ A.same_sorts s t | Second t ↦ refl ] | Second s ↦ elim [ First t ↦ refl | Second t ↦ B.same_sorts s t ] ] };
+
+    ghost equal_values = { elim [ First v ↦ elim [ First w ↦ A.equal_values v w | Second w ↦ refl ] | Second v ↦ elim [ First w ↦ refl | Second w ↦ B.equal_values v w ] ] };
+
     fn sort_of(v: Self::Value) -> Self::Sort {
         match v {
             Joined::First(v) => Joined::First(A::sort_of(v)),
             Joined::Second(v) => Joined::Second(B::sort_of(v)),
-        }
-    }
-
-    fn same_sort(s: Self::Sort, t: Self::Sort) -> bool {
-        match (s, t) {
-            (Joined::First(s), Joined::First(t)) => A::same_sort(s, t),
-            (Joined::Second(s), Joined::Second(t)) => B::same_sort(s, t),
-            _ => false,
         }
     }
 
@@ -104,15 +91,15 @@ impl<A: Ranges, B: Ranges> Ranges for Joined<A, B> {
 
     fn lower(self) -> Option<Self::Value> {
         match self {
-            Joined::First(r) => first(r.lower()),
-            Joined::Second(r) => second(r.lower()),
+            Joined::First(r) => Some(Joined::First(r.lower()?)),
+            Joined::Second(r) => Some(Joined::Second(r.lower()?)),
         }
     }
 
     fn upper(self) -> Option<Self::Value> {
         match self {
-            Joined::First(r) => first(r.upper()),
-            Joined::Second(r) => second(r.upper()),
+            Joined::First(r) => Some(Joined::First(r.upper()?)),
+            Joined::Second(r) => Some(Joined::Second(r.upper()?)),
         }
     }
 
@@ -120,8 +107,16 @@ impl<A: Ranges, B: Ranges> Ranges for Joined<A, B> {
         ensures { result ≡ make_of A.Ranges.order.make B.Ranges.order.make s low high }
     {
         match s {
-            Joined::First(s) => first(A::make(s, first_end(low)?, first_end(high)?)),
-            Joined::Second(s) => second(B::make(s, second_end(low)?, second_end(high)?)),
+            Joined::First(s) => {
+                let low = end_in(low, Joined::first)?;
+                let high = end_in(high, Joined::first)?;
+                Some(Joined::First(A::make(s, low, high)?))
+            }
+            Joined::Second(s) => {
+                let low = end_in(low, Joined::second)?;
+                let high = end_in(high, Joined::second)?;
+                Some(Joined::Second(B::make(s, low, high)?))
+            }
         }
     }
 }
@@ -135,8 +130,8 @@ impl<A: Kind, B: Kind> Kind for Joined<A, B> {
 
     fn fits(op: Arithmetic, s: Self::Sort, t: Self::Sort) -> Option<Self::Sort> {
         match (s, t) {
-            (Joined::First(s), Joined::First(t)) => first(A::fits(op, s, t)),
-            (Joined::Second(s), Joined::Second(t)) => second(B::fits(op, s, t)),
+            (Joined::First(s), Joined::First(t)) => Some(Joined::First(A::fits(op, s, t)?)),
+            (Joined::Second(s), Joined::Second(t)) => Some(Joined::Second(B::fits(op, s, t)?)),
             _ => None,
         }
     }
@@ -193,15 +188,15 @@ impl<A: Kind, B: Kind> Kind for Joined<A, B> {
 
     fn next(v: Self::Value) -> Option<Self::Value> {
         match v {
-            Joined::First(v) => first(A::next(v)),
-            Joined::Second(v) => second(B::next(v)),
+            Joined::First(v) => Some(Joined::First(A::next(v)?)),
+            Joined::Second(v) => Some(Joined::Second(B::next(v)?)),
         }
     }
 
     fn previous(v: Self::Value) -> Option<Self::Value> {
         match v {
-            Joined::First(v) => first(A::previous(v)),
-            Joined::Second(v) => second(B::previous(v)),
+            Joined::First(v) => Some(Joined::First(A::previous(v)?)),
+            Joined::Second(v) => Some(Joined::Second(B::previous(v)?)),
         }
     }
 
@@ -214,8 +209,8 @@ impl<A: Kind, B: Kind> Kind for Joined<A, B> {
 
     fn admit(l: Self::Literal) -> Option<Self::Value> {
         match l {
-            Joined::First(l) => first(A::admit(l)),
-            Joined::Second(l) => second(B::admit(l)),
+            Joined::First(l) => Some(Joined::First(A::admit(l)?)),
+            Joined::Second(l) => Some(Joined::Second(B::admit(l)?)),
         }
     }
 }

@@ -1,13 +1,11 @@
 -- Whole numbers of 64 bits, as a kind. Assumes nothing.
-use Rattle.std.specs.Prelude.{◌≡◌, ℕ, suc, ◌^◌, Bool, true, false, cond, ℤ, pos, ◌+ℤ◌, ◌-ℤ◌, neg_ℤ, Some, None, Ok, Err, Option, Result, int_le, nat_lt, unsigned_abs}
+use Rattle.std.specs.Prelude.{ℕ, suc, ◌^◌, Bool, true, cond, ℤ, pos, ◌+ℤ◌, ◌-ℤ◌, neg_ℤ, Some, None, Option, int_le, nat_lt, unsigned_abs}
 use Rattle.std.specs.Int.Signed.{mag}
-use Rattle.answers.specs.declared.refusal.Refusal.{Refusal}
-use Rattle.answers.specs.declared.refusal.Ground.TheVariants.{CrossedEnds}
-use Rattle.answers.specs.Refusals.{refusal}
+use Rattle.std.specs.Ordering.{int_eq}
 use Rattle.interval_arithmetic.specs.declared.kind.Arithmetic.{Arithmetic}
 use Rattle.interval_arithmetic.specs.declared.kind.Arithmetic.TheVariants.{Plus, Minus}
 use Rattle.interval_arithmetic.specs.Model.{Order, Operations}
-use Rattle.interval_arithmetic.specs.Ends.{Above, Below, Within, fair, fit, kept, low_end, high_end, meet}
+use Rattle.interval_arithmetic.specs.Ends.{fair, fit, kept, low_end, high_end, meet}
 use Rattle.kinds.specs.declared.whole.WholeRange.{WholeRange}
 use Rattle.kinds.specs.declared.whole.WholeSort.{WholeSort}
 use Rattle.kinds.specs.declared.whole.WholeSort.TheVariants.{Whole}
@@ -34,30 +32,18 @@ upper_of r = high_end int_le (kept inside r.low) (kept inside r.high)
 abbrev pub make_of : Option ℤ → Option ℤ → Option WholeRange
 make_of l u = cond (fair inside int_le l u) (Some (range l u)) None
 
--- the range, or refusal 1
-abbrev pub or_refused : Option WholeRange → Result WholeRange Refusal
-or_refused None = Err (refusal CrossedEnds 0)
-or_refused (Some r) = Ok r
-
-abbrev pub try_new_of : Option ℤ → Option ℤ → Result WholeRange Refusal
-try_new_of l u = or_refused (make_of l u)
-
 abbrev pub whole_order : Order ℤ WholeRange WholeSort
 whole_order = record {
   is = λ s. inside;
   sort_of = λ v. Whole;
   same = λ s t. true;
+  equal = int_eq;
   leq = int_le;
   sort = λ r. Whole;
   lower = lower_of;
   upper = upper_of;
   make = λ s. make_of;
 }
-
--- a range that was made holds the numbers of 64 bits from l to u; it is refused only where they are crossed (an i64 always fits)
-abbrev pub Spans : Option ℤ → Option ℤ → Result WholeRange Refusal → Type 0
-Spans l u (Ok r) = ((z : ℤ) → Within whole_order r z → Above whole_order l z × Below whole_order u z) × ((z : ℤ) → inside z ≡ true → Above whole_order l z → Below whole_order u z → Within whole_order r z)
-Spans l u (Err e) = fair inside int_le l u ≡ false
 
 -- an end made of an open one, or that does not fit, is open
 abbrev pub sum_end : Option ℤ → Option ℤ → Option ℤ
@@ -73,6 +59,10 @@ difference_end (Some a) (Some b) = fit64 (a -ℤ b)
 abbrev pub negated_end : Option ℤ → Option ℤ
 negated_end None = None
 negated_end (Some a) = fit64 (neg_ℤ a)
+
+abbrev pub end_of : Arithmetic → Option ℤ → Option ℤ → Option ℤ
+end_of Plus = sum_end
+end_of Minus = difference_end
 
 abbrev pub sum : WholeRange → WholeRange → WholeRange
 sum l r = range (sum_end (lower_of l) (lower_of r)) (sum_end (upper_of l) (upper_of r))
@@ -101,16 +91,24 @@ abbrev pub right_of : Arithmetic → WholeRange → WholeRange → WholeRange
 right_of Plus p l = difference p l
 right_of Minus p l = difference l p
 
+-- what is left of one operand by the result and the other operand
+abbrev pub cut_left : Arithmetic → WholeRange → WholeRange → WholeRange → Option WholeRange
+cut_left op p l r = meet whole_order (left_of op p r) l
+
+abbrev pub cut_right : Arithmetic → WholeRange → WholeRange → WholeRange → Option WholeRange
+cut_right op p l r = meet whole_order (right_of op p l) r
+
+-- what is left of both, of the right one by what is left of the left one
 abbrev pub paired : WholeRange → Option WholeRange → Option (WholeRange × WholeRange)
 paired l None = None
 paired l (Some r) = Some (l, r)
 
 abbrev pub then_right : Arithmetic → WholeRange → WholeRange → Option WholeRange → Option (WholeRange × WholeRange)
 then_right op p r None = None
-then_right op p r (Some l) = paired l (meet whole_order (right_of op p l) r)
+then_right op p r (Some l) = paired l (cut_right op p l r)
 
 abbrev pub backward_of : Arithmetic → WholeRange → WholeRange → WholeRange → Option (WholeRange × WholeRange)
-backward_of op p l r = then_right op p r (meet whole_order (left_of op p r) l)
+backward_of op p l r = then_right op p r (cut_left op p l r)
 
 -- the number of values, if it is at most 2^53
 abbrev pub count_ends : Option ℤ → Option ℤ → Option ℕ

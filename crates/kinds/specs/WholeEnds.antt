@@ -1,15 +1,14 @@
 -- How a range of whole numbers reads, and the laws of its order. Assumes nothing.
-use Rattle.std.specs.Prelude.{◌≡◌, Bool, true, false, cond, ℤ, Some, None, Option, Result, int_le, refl}
-use Rattle.std.proofs.Common.{sym, ap, subst}
-use Rattle.answers.specs.declared.refusal.Refusal.{Refusal}
-use Rattle.kinds.specs.declared.whole.WholeRange.{WholeRange}
+use Rattle.std.specs.Prelude.{◌≡◌, true, cond, ℤ, Some, None, Option, int_le, refl}
+use Rattle.std.proofs.Common.{ap}
+use Rattle.std.proofs.lemmas.Bool.Decides.{Decides-int_eq}
 use Rattle.interval_arithmetic.specs.Ends.{Above, Below, Within, end_is, fair}
 use Rattle.interval_arithmetic.specs.Laws.{OrderLaws, Made}
 use Rattle.interval_arithmetic.proofs.Meets.{fair_from, between, made_within}
 use Rattle.interval_arithmetic.proofs.Plain.{reads_fair, reads_same}
 use Rattle.kinds.specs.declared.whole.WholeSort.{WholeSort}
 use Rattle.kinds.specs.declared.whole.WholeSort.TheVariants.{Whole}
-use Rattle.kinds.specs.Whole.{inside, range, or_refused, try_new_of, Spans, whole_order}
+use Rattle.kinds.specs.Whole.{inside, range, whole_order}
 use Rattle.kinds.specs.Integers.{leq_total, leq_refl, leq_antisym, leq_trans}
 
 pub range_made : (s : WholeSort) (l u : Option ℤ) → fair inside int_le l u ≡ true → Made whole_order s l u (range l u)
@@ -21,6 +20,8 @@ pub order_laws : OrderLaws whole_order
 order_laws = record {
   same_is = λ s t h. only s t;
   same_self = λ s. refl;
+  equal_is = λ a b h. (Decides-int_eq a b).0 h;
+  equal_self = λ a. (Decides-int_eq a a).1 refl;
   sorted = λ s v p. only Whole s;
   total = λ s a b p q h. leq_total a b h;
   reflexive = λ s a p. leq_refl a;
@@ -39,15 +40,3 @@ pub range_within : (l u : Option ℤ) (z : ℤ) → end_is inside l ≡ true →
 range_within l u z p q i h k =
     let f : fair inside int_le l u ≡ true = fair_from inside int_le l u p q (between order_laws Whole l u z p q i h k) in
     made_within order_laws Whole l u (range l u) z (range_made Whole l u f) i h k
-
--- what `try_new` makes holds the numbers between the ends
-pub new_spans : (l u : Option ℤ) (r : Result WholeRange Refusal) → r ≡ try_new_of l u → Spans l u r
-new_spans l u r e = subst (λ x. Spans l u x) (sym e) (by_fair (fair inside int_le l u) refl)
-  where
-    by_fair : (t : Bool) → fair inside int_le l u ≡ t → Spans l u (or_refused (cond t (Some (range l u)) None))
-    by_fair true f =
-        let m = range_made Whole l u f in (
-          λ z w. (subst (λ x. Above whole_order x z) m.low w.above, subst (λ x. Below whole_order x z) m.high w.below),
-          λ z i h k. made_within order_laws Whole l u (range l u) z m i h k,
-        )
-    by_fair false f = f

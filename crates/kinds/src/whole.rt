@@ -1,133 +1,148 @@
 // Whole numbers of 64 bits, as a kind. A result outside 64 bits is no value; an end outside them is open.
-ghost use Rattle.std.specs.Prelude.{◌≡◌, pos, ◌+ℤ◌, ◌-ℤ◌, neg_ℤ};
-ghost use Rattle.kinds.specs.Whole.{fit64, sum_end, difference_end, negated_end, lower_of, upper_of, sum, difference, negated_range, make_of, try_new_of, Spans, whole_order, whole};
+ghost use Rattle.std.specs.Prelude.{◌≡◌, refl};
+ghost use Rattle.std.proofs.Common.{rules};
+ghost use Rattle.kinds.specs.Whole.{end_of, lower_of, upper_of, sum, difference, negated_range, cut_left, cut_right, backward_of, make_of, whole_order, whole};
 ghost use Rattle.answers.specs.Refusals.{Refuses};
+ghost use Rattle.interval_arithmetic.specs.Ends.{try_new_of, Spans};
 ghost use Rattle.kinds.specs.WholeEnds.{order_laws};
 ghost use Rattle.kinds.specs.WholeLaws.{whole_laws};
+ghost use Rattle.kinds.specs.declared.whole.WholeSort.TheVariants.{Whole};
 
-use answers::refusal::{Ground, Refusal};
-use interval_arithmetic::ends::intersect;
+use answers::refusal::Refusal;
+use interval_arithmetic::ends::{intersect, try_new};
 use interval_arithmetic::kind::{Arithmetic, Kind, Ranges};
+use std::ops::{Add, Neg, Sub};
 
-#[derive(Clone, Copy)]
+#[derive(Clone, Copy, Debug, PartialEq, Eq)]
 pub enum WholeSort {
     Whole,
 }
 
-// The numbers between two ends, each a number or open; crossed ends are read as swapped.
-#[derive(Clone, Copy)]
+// The numbers between two ends, each a number or open; crossed ends are read as swapped. The default holds all.
+#[derive(Clone, Copy, Debug, Default)]
 pub struct WholeRange {
     pub low: Option<i64>,
     pub high: Option<i64>,
 }
 
-fn plus(a: i64, b: i64) -> Option<i64>
-    ensures { result ≡ fit64 (a +ℤ b) }
-{
-    a.checked_add(b)
-}
-
-fn minus(a: i64, b: i64) -> Option<i64>
-    ensures { result ≡ fit64 (a -ℤ b) }
-{
-    a.checked_sub(b)
-}
-
-fn negative(a: i64) -> Option<i64>
-    ensures { result ≡ fit64 (neg_ℤ a) }
-{
-    a.checked_neg()
-}
-
-fn add_ends(a: Option<i64>, b: Option<i64>) -> Option<i64>
-    ensures { result ≡ sum_end a b }
-{
-    plus(a?, b?)
-}
-
-fn subtract_ends(a: Option<i64>, b: Option<i64>) -> Option<i64>
-    ensures { result ≡ difference_end a b }
-{
-    minus(a?, b?)
-}
-
-fn negate_end(a: Option<i64>) -> Option<i64>
-    ensures { result ≡ negated_end a }
-{
-    negative(a?)
-}
-
-// The range with these ends, unless they are crossed.
-fn between(low: Option<i64>, high: Option<i64>) -> Option<WholeRange>
-    ensures { result ≡ make_of low high }
-{
-    match (low, high) {
-        (Some(a), Some(b)) if b < a => None,
-        _ => Some(WholeRange { low, high }),
-    }
-}
-
-// Hands on what was made of two ends, with what it means for the numbers.
-fn spanning(
-    low: Option<i64>,
-    high: Option<i64>,
-    made: Result<WholeRange, Refusal>,
-) -> Result<WholeRange, Refusal>
-    requires { made ≡ try_new_of low high }
-    ensures value { result ≡ try_new_of low high }
-    ensures spans { Spans low high result }
-{
-    made
-}
-
 impl WholeRange {
     // The numbers from `low` to `high`; refused where the lower end is above the upper.
     pub fn try_new(low: Option<i64>, high: Option<i64>) -> Result<WholeRange, Refusal>
-        ensures value { result ≡ try_new_of low high }
-        ensures spans { Spans low high result }
+        ensures value { result ≡ try_new_of whole_order Whole low high }
+        ensures spans { Spans whole_order Whole low high result }
         ensures refuses { Refuses 1 0 result }
     {
-        let made = match between(low, high) {
-            Some(range) => Ok(range),
-            None => Err(Ground::CrossedEnds.at(0)),
+        try_new::<WholeRange>(WholeSort::Whole, low, high)
+    }
+
+    // The lower and the upper end, as they are read.
+    fn ends(self) -> (Option<i64>, Option<i64>)
+        ensures low { result.0 ≡ lower_of self }
+        ensures high { result.1 ≡ upper_of self }
+    {
+        match (self.low, self.high) {
+            (Some(low), Some(high)) if high < low => (Some(high), Some(low)),
+            ends => ends,
+        }
+    }
+}
+
+// The end that the operation makes of two; open where one is open or the result is outside 64 bits.
+fn end_of(op: Arithmetic, a: Option<i64>, b: Option<i64>) -> Option<i64>
+    ensures { result ≡ end_of op a b }
+{
+    match op {
+        Arithmetic::Plus => a?.checked_add(b?),
+        Arithmetic::Minus => a?.checked_sub(b?),
+    }
+}
+
+// The range that holds every sum of numbers in the two.
+impl Add for WholeRange {
+    type Output = WholeRange;
+
+    ghost add_gives = { λ l r s. s ≡ sum l r };
+
+    fn add(self, other: WholeRange) -> WholeRange {
+        let (low, high) = self.ends();
+        let (other_low, other_high) = other.ends();
+        WholeRange {
+            low: end_of(Arithmetic::Plus, low, other_low),
+            high: end_of(Arithmetic::Plus, high, other_high),
+        }
+    }
+}
+
+// The range that holds every difference of numbers in the two.
+impl Sub for WholeRange {
+    type Output = WholeRange;
+
+    ghost sub_gives = { λ l r d. d ≡ difference l r };
+
+    fn sub(self, other: WholeRange) -> WholeRange {
+        let (low, high) = self.ends();
+        let (other_low, other_high) = other.ends();
+        WholeRange {
+            low: end_of(Arithmetic::Minus, low, other_high),
+            high: end_of(Arithmetic::Minus, high, other_low),
+        }
+    }
+}
+
+// The range that holds the negative of every number in this one.
+impl Neg for WholeRange {
+    type Output = WholeRange;
+
+    ghost neg_gives = { λ r n. n ≡ negated_range r };
+
+    fn neg(self) -> WholeRange {
+        let (low, high) = self.ends();
+        WholeRange {
+            low: high.and_then(|a| a.checked_neg()),
+            high: low.and_then(|a| a.checked_neg()),
+        }
+    }
+}
+
+// An operation on whole numbers: where its result lies, and where its two operands do.
+#[derive(Clone, Copy, Debug)]
+pub struct Propagation {
+    pub op: Arithmetic,
+    pub parent: WholeRange,
+    pub left: WholeRange,
+    pub right: WholeRange,
+}
+
+impl Propagation {
+    // What is left of the left operand by the result and the right one.
+    pub fn cut_left(self) -> Option<WholeRange>
+        ensures { result ≡ cut_left self.op self.parent self.left self.right }
+    {
+        let by_right = match self.op {
+            Arithmetic::Plus => self.parent - self.right,
+            Arithmetic::Minus => self.parent + self.right,
         };
-        spanning(low, high, made)
+        intersect(by_right, self.left)
     }
 
-    fn start(self) -> Option<i64>
-        ensures { result ≡ lower_of self }
+    // What is left of the right operand by the result and the left one.
+    pub fn cut_right(self) -> Option<WholeRange>
+        ensures { result ≡ cut_right self.op self.parent self.left self.right }
     {
-        match (self.low, self.high) {
-            (Some(a), Some(b)) if b < a => Some(b),
-            (low, _) => low,
-        }
+        let by_left = match self.op {
+            Arithmetic::Plus => self.parent - self.left,
+            Arithmetic::Minus => self.left - self.parent,
+        };
+        intersect(by_left, self.right)
     }
 
-    fn end(self) -> Option<i64>
-        ensures { result ≡ upper_of self }
+    // What is left of both: of the right one by what is left of the left one.
+    pub fn cut(self) -> Option<(WholeRange, WholeRange)>
+        ensures { result ≡ backward_of self.op self.parent self.left self.right }
     {
-        match (self.low, self.high) {
-            (Some(a), Some(b)) if b < a => Some(a),
-            (_, high) => high,
-        }
-    }
-}
-
-fn sum_of(l: WholeRange, r: WholeRange) -> WholeRange
-    ensures { result ≡ sum l r }
-{
-    WholeRange {
-        low: add_ends(l.start(), r.start()),
-        high: add_ends(l.end(), r.end()),
-    }
-}
-
-fn difference_of(l: WholeRange, r: WholeRange) -> WholeRange
-    ensures { result ≡ difference l r }
-{
-    WholeRange {
-        low: subtract_ends(l.start(), r.end()),
-        high: subtract_ends(l.end(), r.start()),
+        let left = self.cut_left()?;
+        let right = Propagation { left, ..self }.cut_right()?;
+        Some((left, right))
     }
 }
 
@@ -140,12 +155,12 @@ impl Ranges for WholeRange {
 
     ghost orderly = { order_laws };
 
+    ghost same_sorts = { Prim.search rules };
+
+    ghost equal_values = { λ v w. refl };
+
     fn sort_of(_v: i64) -> WholeSort {
         WholeSort::Whole
-    }
-
-    fn same_sort(_s: WholeSort, _t: WholeSort) -> bool {
-        true
     }
 
     fn at_most(a: i64, b: i64) -> bool {
@@ -157,17 +172,20 @@ impl Ranges for WholeRange {
     }
 
     fn lower(self) -> Option<i64> {
-        self.start()
+        self.ends().0
     }
 
     fn upper(self) -> Option<i64> {
-        self.end()
+        self.ends().1
     }
 
     fn make(_s: WholeSort, low: Option<i64>, high: Option<i64>) -> Option<WholeRange>
         ensures { result ≡ make_of low high }
     {
-        between(low, high)
+        match (low, high) {
+            (Some(a), Some(b)) if b < a => None,
+            _ => Some(WholeRange { low, high }),
+        }
     }
 }
 
@@ -196,16 +214,13 @@ impl Kind for WholeRange {
 
     fn forward(op: Arithmetic, left: WholeRange, right: WholeRange) -> WholeRange {
         match op {
-            Arithmetic::Plus => sum_of(left, right),
-            Arithmetic::Minus => difference_of(left, right),
+            Arithmetic::Plus => left + right,
+            Arithmetic::Minus => left - right,
         }
     }
 
     fn arithmetic_negate(self) -> WholeRange {
-        WholeRange {
-            low: negate_end(self.end()),
-            high: negate_end(self.start()),
-        }
+        -self
     }
 
     fn backward(
@@ -214,29 +229,26 @@ impl Kind for WholeRange {
         left: WholeRange,
         right: WholeRange,
     ) -> Option<(WholeRange, WholeRange)> {
-        let by_right = match op {
-            Arithmetic::Plus => difference_of(parent, right),
-            Arithmetic::Minus => sum_of(parent, right),
-        };
-        let left = intersect(by_right, left)?;
-        let by_left = match op {
-            Arithmetic::Plus => difference_of(parent, left),
-            Arithmetic::Minus => difference_of(left, parent),
-        };
-        let right = intersect(by_left, right)?;
-        Some((left, right))
+        Propagation {
+            op,
+            parent,
+            left,
+            right,
+        }
+        .cut()
     }
 
     fn next(v: i64) -> Option<i64> {
-        plus(v, 1)
+        v.checked_add(1)
     }
 
     fn previous(v: i64) -> Option<i64> {
-        minus(v, 1)
+        v.checked_sub(1)
     }
 
     fn count(self) -> Option<u64> {
-        let size = self.end()?.abs_diff(self.start()?);
+        let (low, high) = self.ends();
+        let size = high?.abs_diff(low?);
         if size < 1 << 53 { Some(size + 1) } else { None }
     }
 

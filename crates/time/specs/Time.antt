@@ -1,12 +1,13 @@
 -- Stamps, spans and steps of time, as a kind: whole numbers of nanoseconds, each of a sort. Assumes nothing.
 use Rattle.std.specs.Prelude.{Bool, true, false, cond, ◌&&◌, ℤ, pos, negsuc, is_some, Some, None, Option, ◌==◌, int_le}
+use Rattle.std.specs.Ordering.{int_eq}
 use Rattle.std.specs.Option.{option_map, unwrap_or, option_zip}
 use Rattle.interval_arithmetic.specs.declared.kind.Arithmetic.{Arithmetic}
 use Rattle.interval_arithmetic.specs.declared.kind.Arithmetic.TheVariants.{Plus, Minus}
 use Rattle.interval_arithmetic.specs.Model.{Order, Operations}
-use Rattle.interval_arithmetic.specs.Ends.{fair, meet}
+use Rattle.interval_arithmetic.specs.Ends.{fair}
 use Rattle.kinds.specs.declared.whole.WholeRange.{WholeRange}
-use Rattle.kinds.specs.Whole.{inside, fit64, range, lower_of, upper_of, left_of, right_of, whole_order, whole}
+use Rattle.kinds.specs.Whole.{inside, fit64, range, lower_of, upper_of, cut_left, cut_right, whole}
 use Rattle.time.specs.declared.TimeSort.{TimeSort}
 use Rattle.time.specs.declared.TimeSort.TheVariants.{Stamp, Span, Step}
 use Rattle.time.specs.declared.Time.{Time}
@@ -43,6 +44,9 @@ is_time s v = same_sort s v.sort && inside v.nanoseconds
 abbrev pub at_most : Time → Time → Bool
 at_most a b = int_le a.nanoseconds b.nanoseconds
 
+abbrev pub equal : Time → Time → Bool
+equal a b = same_sort a.sort b.sort && int_eq a.nanoseconds b.nanoseconds
+
 -- the range with these ends, unless one is of another sort or they are crossed
 abbrev pub make_of : TimeSort → Option Time → Option Time → Option TimeRange
 make_of s l u = cond (fair (is_time s) at_most l u) (Some (range_of s (range (number l) (number u)))) None
@@ -52,6 +56,7 @@ time_order = record {
   is = is_time;
   sort_of = λ v. v.sort;
   same = same_sort;
+  equal = equal;
   leq = at_most;
   sort = λ r. r.sort;
   lower = λ r. option_map (of_sort r.sort) (lower_of r.nanoseconds);
@@ -112,17 +117,6 @@ is_sort (Some r) s = same_sort r s
 
 abbrev pub results_in : Arithmetic → TimeSort → TimeSort → TimeSort → Bool
 results_in op s t u = is_sort (fits_of op s t) u
-
-abbrev pub inverse_of : Arithmetic → Arithmetic
-inverse_of Plus = Minus
-inverse_of Minus = Plus
-
--- what is left of one child's nanoseconds by the parent and the other child
-abbrev pub cut_left : Arithmetic → WholeRange → WholeRange → WholeRange → Option WholeRange
-cut_left op p l r = meet whole_order (left_of op p r) l
-
-abbrev pub cut_right : Arithmetic → WholeRange → WholeRange → WholeRange → Option WholeRange
-cut_right op p l r = meet whole_order (right_of op p l) r
 
 abbrev pub bounded : WholeRange → Bool
 bounded r = is_some (lower_of r) && is_some (upper_of r)

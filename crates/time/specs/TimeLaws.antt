@@ -10,7 +10,7 @@ use Rattle.interval_arithmetic.proofs.Pairs.{Keeps, PairInside, covers_one, cove
 use Rattle.interval_arithmetic.proofs.Meets.{none_some, meet_keeps, meet_right}
 use Rattle.kinds.specs.declared.whole.WholeRange.{WholeRange}
 use Rattle.kinds.specs.declared.whole.WholeSort.TheVariants.{Whole}
-use Rattle.kinds.specs.Whole.{fit64, left_of, right_of, whole_order, whole}
+use Rattle.kinds.specs.Whole.{fit64, left_of, right_of, cut_left, cut_right, whole_order, whole}
 use Rattle.kinds.specs.WholeEnds as W
 use Rattle.kinds.specs.WholeLaws.{whole_laws, left_holds, right_holds}
 use Rattle.time.specs.declared.TimeSort.{TimeSort}
@@ -19,7 +19,7 @@ use Rattle.time.specs.declared.Time.{Time}
 use Rattle.time.specs.declared.TimeRange.{TimeRange}
 use Rattle.time.specs.declared.TimeLiteral.{TimeLiteral}
 use Rattle.time.specs.declared.TimeLiteral.TheVariants as literal
-use Rattle.time.specs.Time.{of_sort, range_of, fits_of, is_span, resulting, applied, negated, forward_of, is_sort, results_in, cut_left, cut_right, bounded, at_left, at_right, arm, of_sorts, backward_of, admitted, time_order, time}
+use Rattle.time.specs.Time.{of_sort, range_of, fits_of, is_span, resulting, applied, negated, forward_of, is_sort, results_in, bounded, at_left, at_right, arm, of_sorts, backward_of, admitted, time_order, time}
 use Rattle.time.specs.TimeEnds.{same_self, is_parts, is_from, value_is, sort_parts, sort_from, within_up, within_down, one_up, one_down, inside_up}
 
 -- ---- values
