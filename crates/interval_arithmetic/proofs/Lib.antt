@@ -1,3 +1,4 @@
+pub mod OneEnd
 pub mod Meets
 pub mod Plain
 pub mod Pairs

@@ -4,6 +4,7 @@ use Rattle.std.specs.Option.{ok_or}
 use Rattle.answers.specs.declared.refusal.Refusal.{Refusal}
 use Rattle.answers.specs.declared.refusal.Ground.TheVariants.{CrossedEnds}
 use Rattle.answers.specs.Refusals.{refusal}
+use Rattle.std.proofs.lemmas.Option.{none-some, same_Some}
 use Rattle.std.proofs.lemmas.Bool.{and_parts, and_from, both_ways, false≢true}
 use Rattle.answers.specs.declared.truth.Truth.{Truth}
 use Rattle.answers.specs.declared.truth.Truth.TheVariants.{True, Unsure}
@@ -11,12 +12,7 @@ use Rattle.interval_arithmetic.specs.Model.{Order}
 use Rattle.interval_arithmetic.specs.Ends.{Above, Below, Within, Spans, try_new_of, Inside, Same, end_is, uncrossed, fair, higher, lesser, meet, same_end, same_ends, contained}
 use Rattle.answers.specs.Sharing.{Shares, SharesSort, Contains}
 use Rattle.interval_arithmetic.specs.Laws.{OrderLaws, Made}
-
-pub some_inj : {A : Type 0} {x y : A} → Some x ≡ Some y → x ≡ y
-some_inj e = cc
-
-pub none_some : {A : Type 0} {x : A} → None ≡ Some x → ⊥
-none_some {A} {x} e = let z : ◌≡◌ {A = ℕ} 0 1 = cc in omega arith
+use Rattle.interval_arithmetic.proofs.OneEnd.{Ordered, turned, past_both, past_from, tighter_is}
 
 -- what a fair pair of ends is
 pub fair_parts : {V : Type 0} (p : V → Bool) (leq : V → V → Bool) (l u : Option V) → fair p leq l u ≡ true → (end_is p l ≡ true) × (end_is p u ≡ true) × (uncrossed leq l u ≡ true)
@@ -40,43 +36,12 @@ module _ {V R S : Type 0} {o : Order V R S} (laws : OrderLaws o) where
   pub upper_is : (r : R) → end_is (o.is (o.sort r)) (o.upper r) ≡ true
   upper_is r = (fair_parts (o.is (o.sort r)) o.leq (o.lower r) (o.upper r) (laws.ends r)).1
 
-  above_pick : (s : S) (a b v : V) (t : Bool) → o.leq a b ≡ t → o.is s a ≡ true → o.is s b ≡ true → o.is s v ≡ true → o.leq (cond t b a) v ≡ true → (o.leq a v ≡ true) × (o.leq b v ≡ true)
-  above_pick s a b v true e p q i h = (laws.transitive s a b v p q i e h, h)
-  above_pick s a b v false e p q i h = (h, laws.transitive s b a v q p i (laws.total s a b p q e) h)
+  -- the values of a sort in their order, and with the order turned round
+  pub upward : (s : S) → Ordered (o.is s) o.leq
+  upward s = record { total = laws.total s; reflexive = laws.reflexive s; transitive = laws.transitive s }
 
-  above_both : (s : S) (a b : Option V) (v : V) → end_is (o.is s) a ≡ true → end_is (o.is s) b ≡ true → o.is s v ≡ true → Above o (higher o a b) v → Above o a v × Above o b v
-  above_both s None b v p q i h = (tt, h)
-  above_both s (Some a) None v p q i h = (h, tt)
-  above_both s (Some a) (Some b) v p q i h = above_pick s a b v (o.leq a b) refl p q i h
-
-  below_pick : (s : S) (a b v : V) (t : Bool) → o.leq a b ≡ t → o.is s a ≡ true → o.is s b ≡ true → o.is s v ≡ true → o.leq v (cond t a b) ≡ true → (o.leq v a ≡ true) × (o.leq v b ≡ true)
-  below_pick s a b v true e p q i h = (h, laws.transitive s v a b i p q h e)
-  below_pick s a b v false e p q i h = (laws.transitive s v b a i q p h (laws.total s a b p q e), h)
-
-  below_both : (s : S) (a b : Option V) (v : V) → end_is (o.is s) a ≡ true → end_is (o.is s) b ≡ true → o.is s v ≡ true → Below o (lesser o a b) v → Below o a v × Below o b v
-  below_both s None b v p q i h = (tt, h)
-  below_both s (Some a) None v p q i h = (h, tt)
-  below_both s (Some a) (Some b) v p q i h = below_pick s a b v (o.leq a b) refl p q i h
-
-  above_from : (a b : Option V) (v : V) → Above o a v → Above o b v → Above o (higher o a b) v
-  above_from None b v h k = k
-  above_from (Some a) None v h k = h
-  above_from (Some a) (Some b) v h k = elim (o.leq a b) as (λ t. o.leq (cond t b a) v ≡ true) [ true ↦ k | false ↦ h ]
-
-  below_from : (a b : Option V) (v : V) → Below o a v → Below o b v → Below o (lesser o a b) v
-  below_from None b v h k = k
-  below_from (Some a) None v h k = h
-  below_from (Some a) (Some b) v h k = elim (o.leq a b) as (λ t. o.leq v (cond t a b) ≡ true) [ true ↦ h | false ↦ k ]
-
-  higher_is : (s : S) (a b : Option V) → end_is (o.is s) a ≡ true → end_is (o.is s) b ≡ true → end_is (o.is s) (higher o a b) ≡ true
-  higher_is s None b p q = q
-  higher_is s (Some a) None p q = p
-  higher_is s (Some a) (Some b) p q = elim (o.leq a b) as (λ t. o.is s (cond t b a) ≡ true) [ true ↦ q | false ↦ p ]
-
-  lesser_is : (s : S) (a b : Option V) → end_is (o.is s) a ≡ true → end_is (o.is s) b ≡ true → end_is (o.is s) (lesser o a b) ≡ true
-  lesser_is s None b p q = q
-  lesser_is s (Some a) None p q = p
-  lesser_is s (Some a) (Some b) p q = elim (o.leq a b) as (λ t. o.is s (cond t a b) ≡ true) [ true ↦ p | false ↦ q ]
+  pub downward : (s : S) → Ordered (o.is s) (λ a b. o.leq b a)
+  downward s = turned (upward s)
 
   -- ends with a value between them are not crossed
   pub between : (s : S) (l u : Option V) (v : V) → end_is (o.is s) l ≡ true → end_is (o.is s) u ≡ true → o.is s v ≡ true → Above o l v → Below o u v → uncrossed o.leq l u ≡ true
@@ -115,10 +80,10 @@ module _ {V R S : Type 0} {o : Order V R S} (laws : OrderLaws o) where
       let ub : end_is (o.is s) (o.upper b) ≡ true = subst (λ t. end_is (o.is t) (o.upper b) ≡ true) (sym e) (upper_is b) in
       let l : Option V = higher o (o.lower a) (o.lower b) in
       let u : Option V = lesser o (o.upper a) (o.upper b) in
-      let above : Above o l v = above_from (o.lower a) (o.lower b) v wa.above wb.above in
-      let below : Below o u v = below_from (o.upper a) (o.upper b) v wa.below wb.below in
-      let li : end_is (o.is s) l ≡ true = higher_is s (o.lower a) (o.lower b) (lower_is a) lb in
-      let ui : end_is (o.is s) u ≡ true = lesser_is s (o.upper a) (o.upper b) (upper_is a) ub in
+      let above : Above o l v = past_from (upward s) (o.lower a) (o.lower b) v wa.above wb.above in
+      let below : Below o u v = past_from (downward s) (o.upper a) (o.upper b) v wa.below wb.below in
+      let li : end_is (o.is s) l ≡ true = tighter_is (upward s) (o.lower a) (o.lower b) (lower_is a) lb in
+      let ui : end_is (o.is s) u ≡ true = tighter_is (downward s) (o.upper a) (o.upper b) (upper_is a) ub in
       let f : fair (o.is s) o.leq l u ≡ true = fair_from (o.is s) o.leq l u li ui (between s l u v li ui wa.of above below) in
       let m = laws.makes s l u f in
       (m.0, ◌∙◌ {c = Some m.0} (ap (λ t. cond t (o.make s l u) None) same) m.1.made, made_within s l u m.0 v m.1 wa.of above below)
@@ -128,8 +93,8 @@ module _ {V R S : Type 0} {o : Order V R S} (laws : OrderLaws o) where
   make_made s l u c k = by_fair (fair (o.is s) o.leq l u) refl
     where
       by_fair : (t : Bool) → fair (o.is s) o.leq l u ≡ t → Made o s l u c
-      by_fair true e = let m = laws.makes s l u e in subst (λ r. Made o s l u r) (some_inj (sym m.1.made ∙ k)) m.1
-      by_fair false e = absurd (none_some (sym (laws.refuses s l u e) ∙ k))
+      by_fair true e = let m = laws.makes s l u e in subst (λ r. Made o s l u r) (same_Some _ _ (sym m.1.made ∙ k)) m.1
+      by_fair false e = absurd (none-some _ (sym (laws.refuses s l u e) ∙ k))
 
   -- what the range that two others share is made of
   pub meet_made : (a b c : R) → meet o a b ≡ Some c → (o.sort a ≡ o.sort b) × Made o (o.sort a) (higher o (o.lower a) (o.lower b)) (lesser o (o.upper a) (o.upper b)) c
@@ -147,7 +112,7 @@ module _ {V R S : Type 0} {o : Order V R S} (laws : OrderLaws o) where
 
       by_same : (t : Bool) → o.same (o.sort a) (o.sort b) ≡ t → cond t (o.make s l u) None ≡ Some c → (o.sort a ≡ o.sort b) × Made o s l u c
       by_same true e k = (laws.same_is _ _ e, make_made s l u c k)
-      by_same false e k = absurd (none_some k)
+      by_same false e k = absurd (none-some _ k)
 
   pub meet_holds : (a b c : R) → meet o a b ≡ Some c → (v : V) → Within o c v → Within o a v × Within o b v
   meet_holds a b c h v w =
@@ -157,8 +122,8 @@ module _ {V R S : Type 0} {o : Order V R S} (laws : OrderLaws o) where
       let i : o.is s v ≡ true = subst (λ t. o.is t v ≡ true) m.1.sorts w.of in
       let lb : end_is (o.is s) (o.lower b) ≡ true = subst (λ t. end_is (o.is t) (o.lower b) ≡ true) (sym e) (lower_is b) in
       let ub : end_is (o.is s) (o.upper b) ≡ true = subst (λ t. end_is (o.is t) (o.upper b) ≡ true) (sym e) (upper_is b) in
-      let above = above_both s (o.lower a) (o.lower b) v (lower_is a) lb i (subst (λ x. Above o x v) m.1.low w.above) in
-      let below = below_both s (o.upper a) (o.upper b) v (upper_is a) ub i (subst (λ x. Below o x v) m.1.high w.below) in (
+      let above = past_both (upward s) (o.lower a) (o.lower b) v (lower_is a) lb i (subst (λ x. Above o x v) m.1.low w.above) in
+      let below = past_both (downward s) (o.upper a) (o.upper b) v (upper_is a) ub i (subst (λ x. Below o x v) m.1.high w.below) in (
         record { of = i; above = above.0; below = below.0 },
         record { of = subst (λ t. o.is t v ≡ true) e i; above = above.1; below = below.1 },
       )
@@ -170,9 +135,9 @@ module _ {V R S : Type 0} {o : Order V R S} (laws : OrderLaws o) where
   meet_right a b c h = record { sorts = (meet_made a b c h).1.sorts ∙ (meet_made a b c h).0; holds = λ v w. (meet_holds a b c h v w).1 }
 
   pub meet_shares : (a b : R) (r : Option R) → r ≡ meet o a b → Shares (Within o) a b r
-  meet_shares a b None e = λ v wa wb. none_some (e ∙ (meet_keeps a b v wa wb).1)
+  meet_shares a b None e = λ v wa wb. none-some _ (e ∙ (meet_keeps a b v wa wb).1)
   meet_shares a b (Some c) e =
-      (meet_holds a b c (sym e), λ v wa wb. let k = meet_keeps a b v wa wb in subst (λ x. Within o x v) (some_inj (sym k.1 ∙ sym e)) k.2)
+      (meet_holds a b c (sym e), λ v wa wb. let k = meet_keeps a b v wa wb in subst (λ x. Within o x v) (same_Some _ _ (sym k.1 ∙ sym e)) k.2)
 
   pub meet_sorts : (a b : R) (r : Option R) → r ≡ meet o a b → SharesSort o.sort a b r
   meet_sorts a b None e = tt
@@ -210,7 +175,7 @@ module _ {V R S : Type 0} {o : Order V R S} (laws : OrderLaws o) where
   }
 
   contained_rule : (a b : R) (m : Option R) → meet o a b ≡ m → Contains (Within o) (meet o) (Same o) a b (contained o m b)
-  contained_rule a b None e = (e, λ v wb wa. none_some (sym e ∙ (meet_keeps a b v wa wb).1))
+  contained_rule a b None e = (e, λ v wb wa. none-some _ (sym e ∙ (meet_keeps a b v wa wb).1))
   contained_rule a b (Some c) e = by_ends (same_ends o c b) refl
     where
       by_ends : (t : Bool) → same_ends o c b ≡ t → Contains (Within o) (meet o) (Same o) a b (cond t True Unsure)

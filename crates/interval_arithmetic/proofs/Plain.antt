@@ -1,16 +1,13 @@
 -- How the ends that a plain struct keeps are read. Assumes nothing.
 use Rattle.std.proofs.Common.{◌≡◌, Bool, true, false, cond, Some, None, Option, refl, ap, ◌∙◌}
+use Rattle.std.proofs.lemmas.Option.{cond_some}
 use Rattle.interval_arithmetic.specs.Ends.{end_is, uncrossed, fair, fit, kept, low_end, high_end}
-use Rattle.interval_arithmetic.proofs.Meets.{some_inj, none_some, fair_parts, fair_from}
+use Rattle.interval_arithmetic.proofs.Meets.{fair_parts, fair_from}
 
 module _ {V : Type 0} (p : V → Bool) where
-  fit_pick : (t : Bool) (z c : V) → cond t (Some z) None ≡ Some c → (t ≡ true) × (z ≡ c)
-  fit_pick true z c h = (refl, some_inj h)
-  fit_pick false z c h = absurd (none_some h)
-
   -- a value came out, so it fits
   pub fit_was : (z c : V) → fit p z ≡ Some c → (p z ≡ true) × (z ≡ c)
-  fit_was z c h = fit_pick (p z) z c h
+  fit_was z c h = cond_some (p z) z c h
 
   pub fit_is : (z : V) → p z ≡ true → fit p z ≡ Some z
   fit_is z h = ap (λ t. cond t (Some z) None) h

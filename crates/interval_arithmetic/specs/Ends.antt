@@ -42,27 +42,30 @@ high_end leq l None = None
 high_end leq None (Some b) = Some b
 high_end leq (Some a) (Some b) = Some (cond (leq a b) b a)
 
--- of two ends the one that `pick` takes, a value before an open one
-abbrev pub tighter : {V : Type 0} → (V → V → V) → Option V → Option V → Option V
-tighter pick None b = b
-tighter pick (Some a) None = Some a
-tighter pick (Some a) (Some b) = Some (pick a b)
+-- an open end, or a value of which p holds
+abbrev pub OpenOr : {V : Type 0} → (V → Type 0) → Option V → Type 0
+OpenOr p None = Unit {0}
+OpenOr p (Some v) = p v
 
--- the same, where `picks a b c` says that c is taken of a and b
-abbrev pub Tighter : {V : Type 0} → (V → V → V → Type 0) → Option V → Option V → Option V → Type 0
-Tighter picks None b r = r ≡ b
-Tighter picks (Some a) None r = r ≡ Some a
-Tighter {V = V} picks (Some a) (Some b) r = (c : V) × (r ≡ Some c) × picks a b c
+-- of two ends the second where the first reaches it, else the first; a value before an open one
+abbrev pub tighter : {V : Type 0} → (V → V → Bool) → Option V → Option V → Option V
+tighter reaches None b = b
+tighter reaches (Some a) None = Some a
+tighter reaches (Some a) (Some b) = Some (cond (reaches a b) b a)
+
+-- the same, where `reach` says what is answered
+abbrev pub Tighter : {V : Type 0} → (V → V → Bool → Type 0) → Option V → Option V → Option V → Type 0
+Tighter reach None b r = r ≡ b
+Tighter reach (Some a) None r = r ≡ Some a
+Tighter reach (Some a) (Some b) r = (t : Bool) × reach a b t × (r ≡ Some (cond t b a))
 
 module _ {V R S : Type 0} (o : Order V R S) where
   -- at or above a lower end; an open one is below every value
   abbrev pub Above : Option V → V → Type 0
-  Above None v = Unit {0}
-  Above (Some a) v = o.leq a v ≡ true
+  Above e v = OpenOr (λ a. o.leq a v ≡ true) e
 
   abbrev pub Below : Option V → V → Type 0
-  Below None v = Unit {0}
-  Below (Some b) v = o.leq v b ≡ true
+  Below e v = OpenOr (λ b. o.leq v b ≡ true) e
 
   -- the range holds the value: it is of the range's sort and between the ends
   pub record Within (r : R) (v : V) : Type 0 where
@@ -97,11 +100,11 @@ module _ {V R S : Type 0} (o : Order V R S) where
 
   -- the higher of two lower ends, a value before an open one
   abbrev pub higher : Option V → Option V → Option V
-  higher = tighter (λ a b. cond (o.leq a b) b a)
+  higher = tighter o.leq
 
   -- the lower of two upper ends, a value before an open one
   abbrev pub lesser : Option V → Option V → Option V
-  lesser = tighter (λ a b. cond (o.leq a b) a b)
+  lesser = tighter (λ a b. o.leq b a)
 
   -- what two ranges share; shut, so that callers go by the lemmas of `proofs/Meets`
   unfoldable pub meet : R → R → Option R

@@ -6,6 +6,10 @@ use Rattle.interval_arithmetic.specs.Ends.{Within, Inside}
 use Rattle.interval_arithmetic.specs.Compare.{Exceeds}
 use Rattle.interval_arithmetic.specs.Sound.{OfTwo, both, Narrows}
 
+-- the next value, or the value itself if the comparison is not strict
+abbrev pub stepped : {V : Type 0} → Bool → (V → Option V) → V → Option V
+stepped strict next b = cond strict (next b) (Some b)
+
 -- an end, moved to the step from the other side's where it reaches that; absent if there is no step
 abbrev pub moved : {V : Type 0} → (V → V → Bool) → (V → Option V) → Option V → Option V → Option (Option V)
 moved reaches step own None = Some own
@@ -21,10 +25,10 @@ Moved {V = V} reaches steps (Some a) (Some b) r = (t : Bool) × reaches a b t ×
 module _ {V R S L : Type 0} (o : Order V R S) (m : Operations V R S L) where
   -- the least value that a greater one may have, and the greatest that a smaller one may have
   abbrev pub step_up : Bool → V → Option V
-  step_up strict b = cond strict (m.next b) (Some b)
+  step_up strict = stepped strict m.next
 
   abbrev pub step_down : Bool → V → Option V
-  step_down strict b = cond strict (m.previous b) (Some b)
+  step_down strict = stepped strict m.previous
 
   -- a lower end, raised by the other side's; absent if no value is left
   abbrev pub raised : Bool → Option V → Option V → Option (Option V)

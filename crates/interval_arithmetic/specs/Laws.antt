@@ -1,10 +1,15 @@
 -- What every kind keeps. Assumes nothing.
-use Rattle.std.specs.Prelude.{◌≡◌, ℕ, ◌^◌, ◌<◌, ◌≤◌, true, false, ◌⊎◌, [], ◌∷◌, is_some, Some, None, Option}
+use Rattle.std.specs.Prelude.{◌≡◌, Bool, ℕ, ◌^◌, ◌<◌, ◌≤◌, true, false, ◌⊎◌, [], ◌∷◌, is_some, Some, None, Option}
 use Rattle.std.specs.Option.{option_map}
 use Rattle.interval_arithmetic.specs.declared.kind.Arithmetic.{Arithmetic}
 use Rattle.interval_arithmetic.specs.Model.{Order, Operations}
 use Rattle.interval_arithmetic.specs.Ends.{Within, One, Inside, fair}
 use Rattle.interval_arithmetic.specs.Sound.{of_one, of_two, both, Covers, Yields, Narrows}
+
+-- of the values of which `is` holds the first past a, in the order leq; none only if none is past a
+abbrev pub NextBy : {V : Type 0} → (V → Bool) → (V → V → Bool) → V → Option V → Type 0
+NextBy {V = V} is leq a None = (b : V) → is b ≡ true → leq b a ≡ true
+NextBy {V = V} is leq a (Some c) = (is c ≡ true) × (leq c a ≡ false) × ((b : V) → is b ≡ true → leq b a ≡ false → leq c b ≡ true)
 
 module _ {V R S : Type 0} (o : Order V R S) where
   -- the range that was made has the sort and the ends asked for
@@ -36,13 +41,11 @@ module _ {V R S : Type 0} (o : Order V R S) where
 
   -- the least value of the sort above a; none only if none is
   abbrev pub Next : S → V → Option V → Type 0
-  Next s a None = (b : V) → o.is s b ≡ true → o.leq b a ≡ true
-  Next s a (Some c) = (o.is s c ≡ true) × (o.leq c a ≡ false) × ((b : V) → o.is s b ≡ true → o.leq b a ≡ false → o.leq c b ≡ true)
+  Next s = NextBy (o.is s) o.leq
 
   -- the greatest value of the sort below a; none only if none is
   abbrev pub Previous : S → V → Option V → Type 0
-  Previous s a None = (b : V) → o.is s b ≡ true → o.leq a b ≡ true
-  Previous s a (Some c) = (o.is s c ≡ true) × (o.leq a c ≡ false) × ((b : V) → o.is s b ≡ true → o.leq a b ≡ false → o.leq b c ≡ true)
+  Previous s = NextBy (o.is s) (λ a b. o.leq b a)
 
   -- the values of the range are n: `at` lists them, rising, each once
   pub record Numbered (r : R) (n : ℕ) : Type 0 where

@@ -21,13 +21,13 @@ pub fn try_new<K: Ranges>(
     K::make(s, low, high).ok_or(Ground::CrossedEnds.at(0))
 }
 
-// Of two ends the one that `pick` takes, a value before an open one.
-fn tighter<V: Copy, F: FnOnce(V, V) -> V>(a: Option<V>, b: Option<V>, pick: F) -> Option<V>
-    requires { F.IsAlwaysCallable pick }
-    ensures { Tighter (F.post pick) a b result }
+// Of two ends the second where the first reaches it, else the first; a value before an open one.
+fn tighter<V: Copy, F: FnOnce(V, V) -> bool>(a: Option<V>, b: Option<V>, reaches: F) -> Option<V>
+    requires { F.IsAlwaysCallable reaches }
+    ensures { Tighter (F.post reaches) a b result }
 {
     match (a, b) {
-        (Some(a), Some(b)) => Some(pick(a, b)),
+        (Some(a), Some(b)) => Some(if reaches(a, b) { b } else { a }),
         (a, None) => a,
         (None, b) => b,
     }
@@ -43,16 +43,8 @@ pub fn intersect<K: Ranges>(a: K, b: K) -> Option<K>
     if a.sort() != b.sort() {
         return None;
     }
-    let low = tighter(
-        a.lower(),
-        b.lower(),
-        |a, b| if K::at_most(a, b) { b } else { a },
-    );
-    let high = tighter(
-        a.upper(),
-        b.upper(),
-        |a, b| if K::at_most(a, b) { a } else { b },
-    );
+    let low = tighter(a.lower(), b.lower(), |a, b| K::at_most(a, b));
+    let high = tighter(a.upper(), b.upper(), |a, b| K::at_most(b, a));
     K::make(a.sort(), low, high)
 }
 
