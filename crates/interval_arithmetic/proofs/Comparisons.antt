@@ -1,6 +1,6 @@
 -- What is known of a comparison of two ranges holds of their values. Assumes nothing.
 use Rattle.std.proofs.Common.{◌≡◌, Bool, true, false, cond, not, ◌&&◌, ◌||◌, ◌⊎◌, is_some, Some, None, Option, sym, refl, ap, subst, inl, inr}
-use Rattle.std.proofs.lemmas.Bool.{and_parts, and_cases, not-false, both_ways, false≢true}
+use Rattle.std.proofs.lemmas.Bool.{and_parts, and_cases, not-true, not-false, not_from_false, false_from_ne_true, both_ways, false≢true}
 use Rattle.interval_arithmetic.specs.declared.compare.Comparison.{Comparison}
 use Rattle.interval_arithmetic.specs.declared.compare.Comparison.TheVariants.{Gt, GtEq, Lt, LtEq, Eq}
 use Rattle.answers.specs.declared.truth.Truth.{Truth}
@@ -14,15 +14,8 @@ use Rattle.interval_arithmetic.proofs.Meets.{lower_is, upper_is, lower_within, u
 module _ {V R S : Type 0} {o : Order V R S} (laws : OrderLaws o) where
   -- x is over y wherever a value at or below x is over one at or above y
   over_wider : (strict : Bool) (s : S) (l u x y : V) → o.is s l ≡ true → o.is s u ≡ true → o.is s x ≡ true → o.is s y ≡ true → is_over o strict l u ≡ true → o.leq l x ≡ true → o.leq y u ≡ true → is_over o strict x y ≡ true
-  over_wider true s l u x y il iu ix iy h lx yu = by_leq (o.leq x y) refl
-    where
-      lu : (t : Bool) → o.leq l u ≡ t → not t ≡ true → t ≡ false
-      lu true e k = absurd (false≢true k)
-      lu false e k = refl
-
-      by_leq : (t : Bool) → o.leq x y ≡ t → not t ≡ true
-      by_leq true e = absurd (both_ways _ (lu (o.leq l u) refl h) (laws.transitive s l y u il iy iu (laws.transitive s l x y il ix iy lx e) yu))
-      by_leq false e = refl
+  over_wider true s l u x y il iu ix iy h lx yu =
+      not_from_false (o.leq x y) (false_from_ne_true (o.leq x y) (λ e. both_ways _ (not-true (o.leq l u) h) (laws.transitive s l y u il iy iu (laws.transitive s l x y il ix iy lx e) yu)))
   over_wider false s l u x y il iu ix iy h lx yu = laws.transitive s y u x iy iu ix yu (laws.transitive s u l x iu il ix h lx)
 
   all_over_values : (strict : Bool) (s : S) (l u : Option V) (x y : V) → end_is (o.is s) l ≡ true → end_is (o.is s) u ≡ true → o.is s x ≡ true → o.is s y ≡ true → all_over o strict l u ≡ true → Above o l x → Below o u y → is_over o strict x y ≡ true
@@ -39,22 +32,23 @@ module _ {V R S : Type 0} {o : Order V R S} (laws : OrderLaws o) where
 
   -- not both: x over y, and y over x, one of the two strictly
   opposed : (strict : Bool) (x y : V) → Exceeds o strict x y → Exceeds o (not strict) y x → ⊥
-  opposed true x y p q = strictly (o.leq x y) p.over q.over
-    where
-      strictly : (t : Bool) → not t ≡ true → t ≡ true → ⊥
-      strictly true h k = false≢true h
-      strictly false h k = false≢true k
-  opposed false x y p q = strictly (o.leq y x) q.over p.over
-    where
-      strictly : (t : Bool) → not t ≡ true → t ≡ true → ⊥
-      strictly true h k = false≢true h
-      strictly false h k = false≢true k
+  opposed true x y p q = both_ways _ (not-true (o.leq x y) p.over) q.over
+  opposed false x y p q = both_ways _ (not-true (o.leq y x) q.over) p.over
 
-  -- what is known of `exceeds` over two ranges
-  abbrev OverKnown : Bool → R → R → Truth → Type 0
-  OverKnown strict a b True = (x y : V) → Within o a x → Within o b y → Exceeds o strict x y
-  OverKnown strict a b False = (x y : V) → Within o a x → Within o b y → Exceeds o strict x y → ⊥
-  OverKnown strict a b Unsure = Bounded o a → Bounded o b → SomeTwo o a b (Exceeds o strict) × SomeTwo o a b (λ x y. Exceeds o strict x y → ⊥)
+  -- what is known of a relation over two ranges
+  abbrev Known : (V → V → Type 0) → R → R → Truth → Type 0
+  Known related a b True = (x y : V) → Within o a x → Within o b y → related x y
+  Known related a b False = (x y : V) → Within o a x → Within o b y → related x y → ⊥
+  Known related a b Unsure = Bounded o a → Bounded o b → SomeTwo o a b related × SomeTwo o a b (λ x y. related x y → ⊥)
+
+  -- and of the relation turned round
+  turned_two : (related : V → V → Type 0) (a b : R) → SomeTwo o b a related → SomeTwo o a b (λ x y. related y x)
+  turned_two related a b p = record { left = p.right; right = p.left; left_held = p.right_held; right_held = p.left_held; relates = p.relates }
+
+  turned_known : (related : V → V → Type 0) (a b : R) (t : Truth) → Known related b a t → Known (λ x y. related y x) a b t
+  turned_known related a b True h = λ x y wa wb. h y x wb wa
+  turned_known related a b False h = λ x y wa wb. h y x wb wa
+  turned_known related a b Unsure h = λ ba bb. let known = h bb ba in (turned_two related a b known.0, turned_two (λ x y. related x y → ⊥) a b known.1)
 
   some_end : (e : Option V) → is_some e ≡ true → (v : V) × (e ≡ Some v)
   some_end None h = absurd (false≢true h)
@@ -83,10 +77,10 @@ module _ {V R S : Type 0} {o : Order V R S} (laws : OrderLaws o) where
       let il : o.is (o.sort a) l.0 ≡ true = subst (λ t. o.is t l.0 ≡ true) (sym es) wl.of in
       record { left = u.0; right = l.0; left_held = wu; right_held = wl; relates = record { sort = o.sort a; left = wu.of; right = il; over = turned strict u.0 l.0 e } }
 
-  over_known : (a b : R) → o.sort a ≡ o.sort b → (strict : Bool) → OverKnown strict a b (over_truth o strict a b)
+  over_known : (a b : R) → o.sort a ≡ o.sort b → (strict : Bool) → Known (Exceeds o strict) a b (over_truth o strict a b)
   over_known a b es strict = pick (all_over o strict (o.lower a) (o.upper b)) refl (all_over o (not strict) (o.lower b) (o.upper a)) refl
     where
-      pick : (p : Bool) → all_over o strict (o.lower a) (o.upper b) ≡ p → (q : Bool) → all_over o (not strict) (o.lower b) (o.upper a) ≡ q → OverKnown strict a b (cond p True (cond q False Unsure))
+      pick : (p : Bool) → all_over o strict (o.lower a) (o.upper b) ≡ p → (q : Bool) → all_over o (not strict) (o.lower b) (o.upper a) ≡ q → Known (Exceeds o strict) a b (cond p True (cond q False Unsure))
       pick true h q k = exceeds a b es strict h
       pick false h true k = λ x y wa wb e. opposed strict x y e (exceeds b a (sym es) (not strict) k y x wb wa)
       pick false h false k = λ ba bb. (some_over a b es strict k ba bb, some_not_over a b strict h ba bb)
@@ -145,8 +139,8 @@ module _ {V R S : Type 0} {o : Order V R S} (laws : OrderLaws o) where
           let p = some_not_over a b false h ba bb in
           record { left = p.left; right = p.right; left_held = p.left_held; right_held = p.right_held; relates = λ e. p.relates (level (o.sort a) p.left p.right p.left_held.of e) }
       pick (inr h) =
-          let p = some_not_over b a false h bb ba in
-          record { left = p.right; right = p.left; left_held = p.right_held; right_held = p.left_held; relates = λ e. p.relates (level (o.sort b) p.left p.right p.left_held.of (sym e)) }
+          let p = turned_two (λ x y. Exceeds o false x y → ⊥) a b (some_not_over b a false h bb ba) in
+          record { left = p.left; right = p.right; left_held = p.left_held; right_held = p.right_held; relates = λ e. p.relates (level (o.sort b) p.right p.left p.right_held.of (sym e)) }
 
   equal_known : (a b : R) → o.sort a ≡ o.sort b → Compared o Eq a b (equal_truth o a b)
   equal_known a b es =
@@ -161,34 +155,16 @@ module _ {V R S : Type 0} {o : Order V R S} (laws : OrderLaws o) where
           equals a b es both.0 both.1
       pick false h false k false j = λ _ ba bb. (some_equal a b es h k ba bb, some_unequal a b es j ba bb)
 
-  -- what is known of the swapped comparison
-  swapped : (strict : Bool) (a b : R) (t : Truth) → OverKnown strict b a t → (c : Comparison) → ((x y : V) → Exceeds o strict y x → Compares o c x y) → ((x y : V) → Compares o c x y → Exceeds o strict y x) → Compared o c a b t
-  swapped strict a b True h c f g = λ x y wa wb. f x y (h y x wb wa)
-  swapped strict a b False h c f g = λ x y wa wb e. h y x wb wa (g x y e)
-  swapped strict a b Unsure h c f g = λ _ ba bb.
-      let known = h bb ba in
-      let p = known.0 in
-      let q = known.1 in (
-        record { left = p.right; right = p.left; left_held = p.right_held; right_held = p.left_held; relates = f p.right p.left p.relates },
-        record { left = q.right; right = q.left; left_held = q.right_held; right_held = q.left_held; relates = λ e. q.relates (g q.right q.left e) },
-      )
-
-  straight : (strict : Bool) (a b : R) (t : Truth) → OverKnown strict a b t → (c : Comparison) → ((x y : V) → Exceeds o strict x y → Compares o c x y) → ((x y : V) → Compares o c x y → Exceeds o strict x y) → Compared o c a b t
-  straight strict a b True h c f g = λ x y wa wb. f x y (h x y wa wb)
-  straight strict a b False h c f g = λ x y wa wb e. h x y wa wb (g x y e)
-  straight strict a b Unsure h c f g = λ _ ba bb.
-      let known = h ba bb in
-      let p = known.0 in
-      let q = known.1 in (
-        record { left = p.left; right = p.right; left_held = p.left_held; right_held = p.right_held; relates = f p.left p.right p.relates },
-        record { left = q.left; right = q.right; left_held = q.left_held; right_held = q.right_held; relates = λ e. q.relates (g q.left q.right e) },
-      )
+  from_known : (c : Comparison) (a b : R) (t : Truth) → Known (Compares o c) a b t → Compared o c a b t
+  from_known c a b True h = h
+  from_known c a b False h = h
+  from_known c a b Unsure h = λ _. h
 
   ends_known : (c : Comparison) (a b : R) → o.sort a ≡ o.sort b → Compared o c a b (compare_ends o c a b)
-  ends_known Gt a b es = straight true a b (over_truth o true a b) (over_known a b es true) Gt (λ x y e. e) (λ x y e. e)
-  ends_known GtEq a b es = straight false a b (over_truth o false a b) (over_known a b es false) GtEq (λ x y e. e) (λ x y e. e)
-  ends_known Lt a b es = swapped true a b (over_truth o true b a) (over_known b a (sym es) true) Lt (λ x y e. e) (λ x y e. e)
-  ends_known LtEq a b es = swapped false a b (over_truth o false b a) (over_known b a (sym es) false) LtEq (λ x y e. e) (λ x y e. e)
+  ends_known Gt a b es = from_known Gt a b _ (over_known a b es true)
+  ends_known GtEq a b es = from_known GtEq a b _ (over_known a b es false)
+  ends_known Lt a b es = from_known Lt a b _ (turned_known (Exceeds o true) a b _ (over_known b a (sym es) true))
+  ends_known LtEq a b es = from_known LtEq a b _ (turned_known (Exceeds o false) a b _ (over_known b a (sym es) false))
   ends_known Eq a b es = equal_known a b es
 
   pub compared : (c : Comparison) (a b : R) (t : Truth) → t ≡ compare_of o c a b → Compared o c a b t
