@@ -1,16 +1,15 @@
 -- What `greater` leaves: within the two ranges, and with every two values of which the first exceeds the second. Assumes nothing.
-use Rattle.std.proofs.Common.{◌≡◌, Bool, true, false, cond, not, Some, None, Option, sym, refl, ap, ◌∙◌, subst}
-use Rattle.std.specs.Option.{option_map}
-use Rattle.std.proofs.lemmas.Option.{none-some, same_Some}
+use Rattle.std.proofs.Common.{◌≡◌, Bool, true, false, cond, Some, None, Option, sym, refl, ap, ◌∙◌, subst}
+use Rattle.std.proofs.lemmas.Option.{none-some}
 use Rattle.std.proofs.lemmas.Bool.{both_ways, not-true}
 use Rattle.interval_arithmetic.proofs.OneEnd.{Over, over_turned, uncrossed_turned, past_end, moved_keeps, moved_tighter}
 use Rattle.interval_arithmetic.specs.Model.{Order, Operations}
 use Rattle.interval_arithmetic.specs.Compare.{Exceeds}
 use Rattle.interval_arithmetic.specs.Sound.{OfTwo}
 use Rattle.interval_arithmetic.specs.Ends.{Above, Below, Within, Inside, end_is, uncrossed}
-use Rattle.interval_arithmetic.specs.Laws.{OrderLaws, Laws, Made, Next, Previous}
+use Rattle.interval_arithmetic.specs.Laws.{OrderLaws, Laws, Made}
 use Rattle.interval_arithmetic.proofs.Pairs as pair
-use Rattle.interval_arithmetic.specs.Greater.{NarrowsGreater, step_up, step_down, raised, lowered, pair_up, with_end, touching, apart, greater_by, greater}
+use Rattle.interval_arithmetic.specs.Greater.{NarrowsGreater, raised, lowered, pair_up, with_end, touching, apart, greater_by, greater}
 use Rattle.interval_arithmetic.proofs.Meets.{one_sort, upward, downward, fair_parts, fair_from, make_made, lower_is, upper_is, between, made_within}
 
 -- ends that a value lies between make a range that holds it

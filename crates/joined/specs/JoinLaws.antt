@@ -8,11 +8,11 @@ use Rattle.interval_arithmetic.specs.Model.{Order, Operations}
 use Rattle.interval_arithmetic.specs.Ends.{Within, One, Inside}
 use Rattle.interval_arithmetic.specs.Laws.{OrderLaws, Laws}
 use Rattle.interval_arithmetic.specs.Sound.{of_two, both, Covers, Yields, Narrows}
-use Rattle.interval_arithmetic.proofs.Meets.{some_inj, none_some}
+use Rattle.std.proofs.lemmas.Option.{none-some, same_Some}
 use Rattle.joined.specs.declared.Joined.{Joined}
 use Rattle.joined.specs.declared.Joined.TheVariants.{First, Second}
 use Rattle.joined.specs.Join.{either, first_end, second_end, joined_order, joined}
-use Rattle.joined.specs.Sides.{was, Side, SortLaws, ends_fair, sort_laws, counted_in, covers_one_in, negated_in, next_in, previous_in, applied_in, covers_two_in, narrows_in, applied_across, covers_across, narrows_across, narrows_other}
+use Rattle.joined.specs.Sides.{was, Side, SortLaws, ends_fair, sort_laws, counted_in, covers_one_in, negated_in, next_in, applied_in, covers_two_in, narrows_in, applied_across, covers_across, narrows_across, narrows_other}
 
 -- nothing is of both kinds
 apart : {A B : Type 0} (x : A) (y : B) → First x ≢ Second y
@@ -25,7 +25,7 @@ module _ {V W R Q S T : Type 0} (oa : Order V R S) (ob : Order W Q T) where
     range = First;
     sort = First;
     end = first_end;
-    injective = λ a b e. some_inj (some_inj (ap (λ v. first_end (Some v)) e));
+    injective = λ a b e. same_Some _ _ (same_Some _ _ (ap (λ v. first_end (Some v)) e));
     is = λ s v. refl;
     own = λ s. elim [ First x ↦ λ p. record { it = x; gives = refl; has = p } | Second y ↦ λ p. absurd (false≢true p) ];
     sort_of = λ v. refl;
@@ -43,7 +43,7 @@ module _ {V W R Q S T : Type 0} (oa : Order V R S) (ob : Order W Q T) where
     range = Second;
     sort = Second;
     end = second_end;
-    injective = λ a b e. some_inj (some_inj (ap (λ v. second_end (Some v)) e));
+    injective = λ a b e. same_Some _ _ (same_Some _ _ (ap (λ v. second_end (Some v)) e));
     is = λ s v. refl;
     own = λ s. elim [ First x ↦ λ p. absurd (false≢true p) | Second y ↦ λ p. record { it = y; gives = refl; has = p } ];
     sort_of = λ v. refl;
@@ -90,8 +90,8 @@ module _ {V W R Q S T L M : Type 0} {oa : Order V R S} {ob : Order W Q T} {a : O
 
   forward_sort : (op : Arithmetic) (l r : Joined R Q) (s : Joined S T) → m.fits op (o.sort l) (o.sort r) ≡ Some s → o.sort (m.forward op l r) ≡ s
   forward_sort op (First l) (First r) s e = let x = was First _ s e in ap First (ka.forward_sort op l r x.it x.has) ∙ x.gives
-  forward_sort op (First l) (Second r) s e = absurd (none_some e)
-  forward_sort op (Second l) (First r) s e = absurd (none_some e)
+  forward_sort op (First l) (Second r) s e = absurd (none-some _ e)
+  forward_sort op (Second l) (First r) s e = absurd (none-some _ e)
   forward_sort op (Second l) (Second r) s e = let x = was Second _ s e in ap Second (kb.forward_sort op l r x.it x.has) ∙ x.gives
 
   forward : (op : Arithmetic) (l r : Joined R Q) → Covers (Within o) (One o) (of_two (m.apply op)) (l ∷ r ∷ []) (m.forward op l r)
@@ -123,8 +123,8 @@ module _ {V W R Q S T L M : Type 0} {oa : Order V R S} {ob : Order W Q T} {a : O
     negate_sort = elim [ First r ↦ λ h. ap First (ka.negate_sort r h) | Second r ↦ λ h. ap Second (kb.negate_sort r h) ];
     negate = elim [ First r ↦ covers_one_in (first oa ob) a.negate m.negate (λ x. refl) r (a.arithmetic_negate r) (ka.negate r) | Second r ↦ covers_one_in (second oa ob) b.negate m.negate (λ x. refl) r (b.arithmetic_negate r) (kb.negate r) ];
     backward = backward;
-    nexts = elim [ First s ↦ next_in (first oa ob) a.next m.next (λ x. refl) s (ka.nexts s) | Second s ↦ next_in (second oa ob) b.next m.next (λ x. refl) s (kb.nexts s) ];
-    previouses = elim [ First s ↦ previous_in (first oa ob) a.previous m.previous (λ x. refl) s (ka.previouses s) | Second s ↦ previous_in (second oa ob) b.previous m.previous (λ x. refl) s (kb.previouses s) ];
+    nexts = elim [ First s ↦ next_in (first oa ob) a.next m.next (λ x. refl) s oa.leq o.leq (λ x y. refl) (ka.nexts s) | Second s ↦ next_in (second oa ob) b.next m.next (λ x. refl) s ob.leq o.leq (λ x y. refl) (kb.nexts s) ];
+    previouses = elim [ First s ↦ next_in (first oa ob) a.previous m.previous (λ x. refl) s (λ x y. oa.leq y x) (λ x y. o.leq y x) (λ x y. refl) (ka.previouses s) | Second s ↦ next_in (second oa ob) b.previous m.previous (λ x. refl) s (λ x y. ob.leq y x) (λ x y. o.leq y x) (λ x y. refl) (kb.previouses s) ];
     counts = elim [ First r ↦ counted_in (first oa ob) r (a.count r) (ka.counts r) | Second r ↦ counted_in (second oa ob) r (b.count r) (kb.counts r) ];
     admits = admits;
   }

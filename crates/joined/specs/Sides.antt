@@ -5,9 +5,10 @@ use Rattle.std.specs.Option.{option_map}
 use Rattle.std.proofs.lemmas.Bool.{both_ways}
 use Rattle.interval_arithmetic.specs.Model.{Order}
 use Rattle.interval_arithmetic.specs.Ends.{Above, Below, Within, One, Inside, end_is, fair}
-use Rattle.interval_arithmetic.specs.Laws.{OrderLaws, Made, Next, Previous, Numbered, Counted}
+use Rattle.interval_arithmetic.specs.Laws.{OrderLaws, Made, NextBy, Numbered, Counted}
 use Rattle.interval_arithmetic.specs.Sound.{of_one, of_two, both, Covers, Yields, Narrows}
-use Rattle.interval_arithmetic.proofs.Meets.{some_inj, none_some, fair_parts}
+use Rattle.std.proofs.lemmas.Option.{none-some, same_Some}
+use Rattle.interval_arithmetic.proofs.Meets.{fair_parts}
 use Rattle.interval_arithmetic.proofs.Pairs.{Keeps, PairInside, covers_one, covers_two, narrows_two, pair_inside, pair_keeps}
 use Rattle.joined.specs.Join.{pair, with_ends}
 
@@ -19,8 +20,8 @@ pub record From {A B : Type 0} (f : A → B) (p : A → Type 0) (y : B) : Type 0
 
 -- an answer that came through `mapped`
 pub was : {A B : Type 0} (f : A → B) (e : Option A) (y : B) → option_map f e ≡ Some y → From f (λ x. e ≡ Some x) y
-was f None y h = absurd (none_some h)
-was f (Some x) y h = record { it = x; gives = some_inj h; has = refl }
+was f None y h = absurd (none-some _ h)
+was f (Some x) y h = record { it = x; gives = same_Some _ _ h; has = refl }
 
 -- an end of j, as one of o if it is some; if not, it is of no sort of o
 abbrev pub EndIs : {V V' S : Type 0} → (V → V') → (S → V' → Bool) → Option V' → Option (Option V) → Type 0
@@ -126,7 +127,7 @@ module _ {V R S V' R' S' : Type 0} {o : Order V R S} {j : Order V' R' S'} (e : S
 
   within : Carried (Within o) (Within j)
   within = record {
-    to = λ r v w. record { of = rw (sorts, is) w.of; above = rw (lower, above) w.above; below = rw (upper, below) w.below };
+    to = λ r v w. record { of = rw (sorts, is) w.of; above = rw (lower r, above (o.lower r) v) w.above; below = rw (upper r, below (o.upper r) v) w.below };
     from = λ r v w.
         let x = own (o.sort r) v (rw sorts at w.of) in
         let i : Above o (o.lower r) x.it = rw (← above (o.lower r) x.it, ← lower r, x.gives) w.above in
@@ -193,19 +194,13 @@ module _ {V R S V' R' S' : Type 0} {o : Order V R S} {j : Order V' R' S'} (e : S
           let k = h x.it y.it x.has y.has in
           (k.0, rw (← y.gives, is) k.1, rw (← y.gives, same, k.2, x.gives) refl)
 
-      pub next_in : ((a : V) → o.is s a ≡ true → Next o s a (f a)) → (a : V') → j.is (sort s) a ≡ true → Next j (sort s) a (F a)
-      next_in h a i = let x = own s a i in rw (← x.gives, same) (go x.it (f x.it) (h x.it x.has))
+      -- the next value, in orders that are the same on the values of o
+      pub next_in : (leq : V → V → Bool) (leq' : V' → V' → Bool) → ((a b : V) → leq' (value a) (value b) ≡ leq a b) → ((a : V) → o.is s a ≡ true → NextBy (o.is s) leq a (f a)) → (a : V') → j.is (sort s) a ≡ true → NextBy (j.is (sort s)) leq' a (F a)
+      next_in leq leq' leq_same h a i = let x = own s a i in rw (← x.gives, same) (go x.it (f x.it) (h x.it x.has))
         where
-          go : (a : V) (n : Option V) → Next o s a n → Next j (sort s) (value a) (option_map value n)
-          go a None h = λ b i. let y = own s b i in rw (← y.gives, leq) (h y.it y.has)
-          go a (Some c) h = (is s c ∙ h.0, leq c a ∙ h.1, λ b i k. let y = own s b i in rw (← y.gives, leq) (h.2 y.it y.has (sym (leq y.it a) ∙ rw y.gives k)))
-
-      pub previous_in : ((a : V) → o.is s a ≡ true → Previous o s a (f a)) → (a : V') → j.is (sort s) a ≡ true → Previous j (sort s) a (F a)
-      previous_in h a i = let x = own s a i in rw (← x.gives, same) (go x.it (f x.it) (h x.it x.has))
-        where
-          go : (a : V) (n : Option V) → Previous o s a n → Previous j (sort s) (value a) (option_map value n)
-          go a None h = λ b i. let y = own s b i in rw (← y.gives, leq) (h y.it y.has)
-          go a (Some c) h = (is s c ∙ h.0, leq a c ∙ h.1, λ b i k. let y = own s b i in rw (← y.gives, leq) (h.2 y.it y.has (sym (leq a y.it) ∙ rw y.gives k)))
+          go : (a : V) (n : Option V) → NextBy (o.is s) leq a n → NextBy (j.is (sort s)) leq' (value a) (option_map value n)
+          go a None h = λ b i. let y = own s b i in rw (← y.gives, leq_same) (h y.it y.has)
+          go a (Some c) h = (is s c ∙ h.0, leq_same c a ∙ h.1, λ b i k. let y = own s b i in rw (← y.gives, leq_same) (h.2 y.it y.has (sym (leq_same y.it a) ∙ rw y.gives k)))
 
   -- ---- f on two values of o, as F on two of j
 
@@ -255,7 +250,7 @@ module _ {V R S W Q T V' R' S' : Type 0} {o : Order V R S} {o₂ : Order W Q T} 
   -- values of the two have no result
   module _ (none : (a : V) (b : W) → F (e.value a) (d.value b) ≡ None) where
     no_result : {p : V → Type 0} {q : W → Type 0} {a b c : V'} → From e.value p a → From d.value q b → F a b ≢ Some c
-    no_result x y h = none_some (sym (none x.it y.it) ∙ ap₂ F x.gives y.gives ∙ h)
+    no_result x y h = none-some _ (sym (none x.it y.it) ∙ ap₂ F x.gives y.gives ∙ h)
 
     pub applied_across : (s : S) (t : T) (a b c : V') → j.is (e.sort s) a ≡ true → j.is (d.sort t) b ≡ true → F a b ≢ Some c
     applied_across s t a b c p q = no_result (e.own s a p) (d.own t b q)

@@ -46,15 +46,16 @@ whole_order = record {
 }
 
 -- an end made of an open one, or that does not fit, is open
+abbrev pub end_by : (ℤ → ℤ → ℤ) → Option ℤ → Option ℤ → Option ℤ
+end_by f None b = None
+end_by f (Some a) None = None
+end_by f (Some a) (Some b) = fit64 (f a b)
+
 abbrev pub sum_end : Option ℤ → Option ℤ → Option ℤ
-sum_end None b = None
-sum_end (Some a) None = None
-sum_end (Some a) (Some b) = fit64 (a +ℤ b)
+sum_end = end_by (λ a b. a +ℤ b)
 
 abbrev pub difference_end : Option ℤ → Option ℤ → Option ℤ
-difference_end None b = None
-difference_end (Some a) None = None
-difference_end (Some a) (Some b) = fit64 (a -ℤ b)
+difference_end = end_by (λ a b. a -ℤ b)
 
 abbrev pub negated_end : Option ℤ → Option ℤ
 negated_end None = None

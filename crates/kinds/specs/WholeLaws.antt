@@ -4,7 +4,7 @@ use Rattle.std.proofs.Common.{sym, ◌∙◌, ap, subst, inl, inr, arith}
 use Rattle.std.proofs.lemmas.Bool.{ltb-true, ltb-false}
 use Rattle.interval_arithmetic.specs.declared.kind.Arithmetic.{Arithmetic}
 use Rattle.interval_arithmetic.specs.declared.kind.Arithmetic.TheVariants.{Plus, Minus}
-use Rattle.interval_arithmetic.specs.Ends.{Above, Below, Within, One, Inside, end_is, meet}
+use Rattle.interval_arithmetic.specs.Ends.{OpenOr, Above, Below, Within, One, Inside, end_is, meet}
 use Rattle.interval_arithmetic.specs.Laws.{Laws, Next, Previous, Numbered, Counted}
 use Rattle.interval_arithmetic.specs.Sound.{of_two, Yields}
 use Rattle.interval_arithmetic.proofs.Pairs.{Keeps, PairInside, covers_one, covers_two, narrows_two}
@@ -12,74 +12,43 @@ use Rattle.interval_arithmetic.proofs.Meets.{fair_from, lower_is, upper_is, meet
 use Rattle.kinds.specs.declared.whole.WholeRange.{WholeRange}
 use Rattle.kinds.specs.declared.whole.WholeSort.{WholeSort}
 use Rattle.kinds.specs.declared.whole.WholeSort.TheVariants.{Whole}
-use Rattle.kinds.specs.Whole.{inside, fit64, range, lower_of, upper_of, whole_order, sum_end, difference_end, negated_end, sum, difference, negated_range, applied, forward_of, left_of, right_of, paired, then_right, backward_of, count_ends, whole}
+use Rattle.kinds.specs.Whole.{inside, fit64, range, lower_of, upper_of, whole_order, end_by, negated_end, sum, difference, negated_range, applied, forward_of, left_of, right_of, paired, then_right, backward_of, count_ends, whole}
 use Rattle.kinds.specs.Integers as Z
-use Rattle.interval_arithmetic.proofs.Plain.{fit_was, fit_is, fit_end}
+use Rattle.interval_arithmetic.proofs.Plain.{fit_was, fit_is, fit_end, open_fit}
 use Rattle.kinds.specs.WholeEnds.{range_made, range_within, order_laws}
 
 -- ---- forward
 
-above_fit : (a z : ℤ) (t : Bool) → int_le a z ≡ true → Above whole_order (cond t (Some a) None) z
-above_fit a z true h = h
-above_fit a z false h = tt
-
-below_fit : (b z : ℤ) (t : Bool) → int_le z b ≡ true → Below whole_order (cond t (Some b) None) z
-below_fit b z true h = h
-below_fit b z false h = tt
-
-sum_end_is : (a b : Option ℤ) → end_is inside (sum_end a b) ≡ true
-sum_end_is None b = refl
-sum_end_is (Some a) None = refl
-sum_end_is (Some a) (Some b) = fit_end inside (a +ℤ b)
-
-difference_end_is : (a b : Option ℤ) → end_is inside (difference_end a b) ≡ true
-difference_end_is None b = refl
-difference_end_is (Some a) None = refl
-difference_end_is (Some a) (Some b) = fit_end inside (a -ℤ b)
+end_by_is : (f : ℤ → ℤ → ℤ) (a b : Option ℤ) → end_is inside (end_by f a b) ≡ true
+end_by_is f None b = refl
+end_by_is f (Some a) None = refl
+end_by_is f (Some a) (Some b) = fit_end inside (f a b)
 
 negated_end_is : (a : Option ℤ) → end_is inside (negated_end a) ≡ true
 negated_end_is None = refl
 negated_end_is (Some a) = fit_end inside (neg_ℤ a)
 
-sum_above : (a b : Option ℤ) (x y : ℤ) → Above whole_order a x → Above whole_order b y → Above whole_order (sum_end a b) (x +ℤ y)
-sum_above None b x y h k = tt
-sum_above (Some a) None x y h k = tt
-sum_above (Some a) (Some b) x y h k = above_fit (a +ℤ b) (x +ℤ y) (inside (a +ℤ b)) (Z.sum_mono a b x y h k)
+-- an end made of two keeps what f keeps of numbers
+end_by_open : (f : ℤ → ℤ → ℤ) (p q r : ℤ → Type 0) → ((a b : ℤ) → p a → q b → r (f a b)) → (a b : Option ℤ) → OpenOr p a → OpenOr q b → OpenOr r (end_by f a b)
+end_by_open f p q r keeps None b h k = tt
+end_by_open f p q r keeps (Some a) None h k = tt
+end_by_open f p q r keeps (Some a) (Some b) h k = open_fit inside r (f a b) (keeps a b h k)
 
-sum_below : (a b : Option ℤ) (x y : ℤ) → Below whole_order a x → Below whole_order b y → Below whole_order (sum_end a b) (x +ℤ y)
-sum_below None b x y h k = tt
-sum_below (Some a) None x y h k = tt
-sum_below (Some a) (Some b) x y h k = below_fit (a +ℤ b) (x +ℤ y) (inside (a +ℤ b)) (Z.sum_mono x y a b h k)
-
-difference_above : (a b : Option ℤ) (x y : ℤ) → Above whole_order a x → Below whole_order b y → Above whole_order (difference_end a b) (x -ℤ y)
-difference_above None b x y h k = tt
-difference_above (Some a) None x y h k = tt
-difference_above (Some a) (Some b) x y h k = above_fit (a -ℤ b) (x -ℤ y) (inside (a -ℤ b)) (Z.difference_mono a b x y h k)
-
-difference_below : (a b : Option ℤ) (x y : ℤ) → Below whole_order a x → Above whole_order b y → Below whole_order (difference_end a b) (x -ℤ y)
-difference_below None b x y h k = tt
-difference_below (Some a) None x y h k = tt
-difference_below (Some a) (Some b) x y h k = below_fit (a -ℤ b) (x -ℤ y) (inside (a -ℤ b)) (Z.difference_mono x y a b h k)
-
-negated_above : (b : Option ℤ) (x : ℤ) → Below whole_order b x → Above whole_order (negated_end b) (neg_ℤ x)
-negated_above None x h = tt
-negated_above (Some b) x h = above_fit (neg_ℤ b) (neg_ℤ x) (inside (neg_ℤ b)) (Z.negated_mono x b h)
-
-negated_below : (a : Option ℤ) (x : ℤ) → Above whole_order a x → Below whole_order (negated_end a) (neg_ℤ x)
-negated_below None x h = tt
-negated_below (Some a) x h = below_fit (neg_ℤ a) (neg_ℤ x) (inside (neg_ℤ a)) (Z.negated_mono a x h)
+negated_open : (p r : ℤ → Type 0) → ((a : ℤ) → p a → r (neg_ℤ a)) → (a : Option ℤ) → OpenOr p a → OpenOr r (negated_end a)
+negated_open p r keeps None h = tt
+negated_open p r keeps (Some a) h = open_fit inside r (neg_ℤ a) (keeps a h)
 
 sum_holds : (l r : WholeRange) (x y : ℤ) → Within whole_order l x → Within whole_order r y → inside (x +ℤ y) ≡ true → Within whole_order (sum l r) (x +ℤ y)
 sum_holds l r x y p q i =
-    range_within _ _ (x +ℤ y) (sum_end_is (lower_of l) (lower_of r)) (sum_end_is (upper_of l) (upper_of r)) i
-    (sum_above (lower_of l) (lower_of r) x y p.above q.above)
-    (sum_below (upper_of l) (upper_of r) x y p.below q.below)
+    range_within _ _ (x +ℤ y) (end_by_is (λ a b. a +ℤ b) (lower_of l) (lower_of r)) (end_by_is (λ a b. a +ℤ b) (upper_of l) (upper_of r)) i
+    (end_by_open (λ a b. a +ℤ b) _ _ (λ c. int_le c (x +ℤ y) ≡ true) (λ a b. Z.sum_mono a b x y) (lower_of l) (lower_of r) p.above q.above)
+    (end_by_open (λ a b. a +ℤ b) _ _ (λ c. int_le (x +ℤ y) c ≡ true) (λ a b. Z.sum_mono x y a b) (upper_of l) (upper_of r) p.below q.below)
 
 difference_holds : (l r : WholeRange) (x y : ℤ) → Within whole_order l x → Within whole_order r y → inside (x -ℤ y) ≡ true → Within whole_order (difference l r) (x -ℤ y)
 difference_holds l r x y p q i =
-    range_within _ _ (x -ℤ y) (difference_end_is (lower_of l) (upper_of r)) (difference_end_is (upper_of l) (lower_of r)) i
-    (difference_above (lower_of l) (upper_of r) x y p.above q.below)
-    (difference_below (upper_of l) (lower_of r) x y p.below q.above)
+    range_within _ _ (x -ℤ y) (end_by_is (λ a b. a -ℤ b) (lower_of l) (upper_of r)) (end_by_is (λ a b. a -ℤ b) (upper_of l) (lower_of r)) i
+    (end_by_open (λ a b. a -ℤ b) _ _ (λ c. int_le c (x -ℤ y) ≡ true) (λ a b. Z.difference_mono a b x y) (lower_of l) (upper_of r) p.above q.below)
+    (end_by_open (λ a b. a -ℤ b) _ _ (λ c. int_le (x -ℤ y) c ≡ true) (λ a b. Z.difference_mono x y a b) (upper_of l) (lower_of r) p.below q.above)
 
 forward_holds : (op : Arithmetic) (l r : WholeRange) (x y z : ℤ) → Within whole_order l x → Within whole_order r y → applied op x y ≡ Some z → Within whole_order (forward_of op l r) z
 forward_holds Plus l r x y z p q e = let f = fit_was inside (x +ℤ y) z e in subst (λ v. Within whole_order (sum l r) v) f.1 (sum_holds l r x y p q f.0)
@@ -90,7 +59,8 @@ negate_holds r x y p e =
     let f = fit_was inside (neg_ℤ x) y e in
     subst (λ v. Within whole_order (negated_range r) v) f.1
     (range_within _ _ (neg_ℤ x) (negated_end_is (upper_of r)) (negated_end_is (lower_of r)) f.0
-    (negated_above (upper_of r) x p.below) (negated_below (lower_of r) x p.above))
+    (negated_open _ (λ c. int_le c (neg_ℤ x) ≡ true) (λ b. Z.negated_mono x b) (upper_of r) p.below)
+    (negated_open _ (λ c. int_le (neg_ℤ x) c ≡ true) (λ a. Z.negated_mono a x) (lower_of r) p.above))
 
 -- both ends are the value z, so the range is that value
 one_from : (l u : Option ℤ) (z : ℤ) → inside z ≡ true → l ≡ Some z → u ≡ Some z → One whole_order (range l u) z

@@ -5,9 +5,11 @@ use Rattle.std.specs.Option.{option_map}
 use Rattle.std.specs.Ordering.{int_eq}
 use Rattle.std.proofs.lemmas.Bool.Decides.{Decides-int_eq}
 use Rattle.std.proofs.lemmas.Bool.{and_parts, and_from, false≢true}
-use Rattle.interval_arithmetic.specs.Ends.{Above, Below, Within, One, Inside, end_is, uncrossed, fair}
+use Rattle.interval_arithmetic.specs.Ends.{Within, One, Inside, end_is, uncrossed, fair}
 use Rattle.interval_arithmetic.specs.Laws.{OrderLaws, Made}
-use Rattle.interval_arithmetic.proofs.Meets.{fair_parts, fair_from, some_inj, none_some}
+use Rattle.interval_arithmetic.proofs.Meets.{fair_parts, fair_from}
+use Rattle.interval_arithmetic.proofs.Plain.{open_map, open_unmap}
+use Rattle.std.proofs.lemmas.Option.{none-some, same_Some}
 use Rattle.kinds.specs.declared.whole.WholeRange.{WholeRange}
 use Rattle.kinds.specs.declared.whole.WholeSort.TheVariants.{Whole}
 use Rattle.kinds.specs.Whole.{inside, range, lower_of, upper_of, whole_order}
@@ -48,8 +50,8 @@ value_is s n v e f = ap (λ t. of_sort t n) e ∙ ap (λ m. of_sort v.sort m) f
 
 -- a value came out of nanoseconds
 pub sort_parts : (s : TimeSort) (n : Option ℤ) (v : Time) → option_map (of_sort s) n ≡ Some v → (s ≡ v.sort) × (n ≡ Some v.nanoseconds)
-sort_parts s None v h = absurd (none_some h)
-sort_parts s (Some n) v h = let e : of_sort s n ≡ v = some_inj h in (ap (λ x. x.sort) e, ap (λ x. Some x.nanoseconds) e)
+sort_parts s None v h = absurd (none-some _ h)
+sort_parts s (Some n) v h = let e : of_sort s n ≡ v = same_Some _ _ h in (ap (λ x. x.sort) e, ap (λ x. Some x.nanoseconds) e)
 
 pub sort_from : (s : TimeSort) (n : Option ℤ) (v : Time) → s ≡ v.sort → n ≡ Some v.nanoseconds → option_map (of_sort s) n ≡ Some v
 sort_from s n v e f = ◌∙◌ {b = Some (of_sort s v.nanoseconds)} (ap (option_map (of_sort s)) f) (ap Some (value_is s v.nanoseconds v e refl))
@@ -120,33 +122,17 @@ order_laws = record {
 
 -- ---- a range of a sort holds the values of the sort whose nanoseconds its range of nanoseconds holds
 
-above_up : (s : TimeSort) (e : Option ℤ) (v : Time) → Above whole_order e v.nanoseconds → Above time_order (option_map (of_sort s) e) v
-above_up s None v h = tt
-above_up s (Some a) v h = h
-
-above_down : (s : TimeSort) (e : Option ℤ) (v : Time) → Above time_order (option_map (of_sort s) e) v → Above whole_order e v.nanoseconds
-above_down s None v h = tt
-above_down s (Some a) v h = h
-
-below_up : (s : TimeSort) (e : Option ℤ) (v : Time) → Below whole_order e v.nanoseconds → Below time_order (option_map (of_sort s) e) v
-below_up s None v h = tt
-below_up s (Some b) v h = h
-
-below_down : (s : TimeSort) (e : Option ℤ) (v : Time) → Below time_order (option_map (of_sort s) e) v → Below whole_order e v.nanoseconds
-below_down s None v h = tt
-below_down s (Some b) v h = h
-
 pub within_up : (r : TimeRange) (v : Time) → r.sort ≡ v.sort → Within whole_order r.nanoseconds v.nanoseconds → Within time_order r v
 within_up r v e w = record {
   of = is_from r.sort v e w.of;
-  above = above_up r.sort (lower_of r.nanoseconds) v w.above;
-  below = below_up r.sort (upper_of r.nanoseconds) v w.below;
+  above = open_map (of_sort r.sort) (λ a. at_most a v ≡ true) (lower_of r.nanoseconds) w.above;
+  below = open_map (of_sort r.sort) (λ b. at_most v b ≡ true) (upper_of r.nanoseconds) w.below;
 }
 
 pub within_down : (r : TimeRange) (v : Time) → Within time_order r v → (r.sort ≡ v.sort) × Within whole_order r.nanoseconds v.nanoseconds
 within_down r v w =
     let p = is_parts r.sort v w.of in
-    (p.0, record { of = p.1; above = above_down r.sort (lower_of r.nanoseconds) v w.above; below = below_down r.sort (upper_of r.nanoseconds) v w.below })
+    (p.0, record { of = p.1; above = open_unmap (of_sort r.sort) (λ a. at_most a v ≡ true) (lower_of r.nanoseconds) w.above; below = open_unmap (of_sort r.sort) (λ b. at_most v b ≡ true) (upper_of r.nanoseconds) w.below })
 
 pub one_up : (r : TimeRange) (v : Time) → r.sort ≡ v.sort → One whole_order r.nanoseconds v.nanoseconds → One time_order r v
 one_up r v e w = record { from = sort_from r.sort (lower_of r.nanoseconds) v e w.from; to = sort_from r.sort (upper_of r.nanoseconds) v e w.to }

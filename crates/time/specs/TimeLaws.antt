@@ -1,16 +1,17 @@
 -- The laws of time as a kind, from those of whole numbers. Assumes nothing.
-use Rattle.std.specs.Prelude.{◌≡◌, ℕ, Bool, true, false, cond, [], ◌∷◌, ℤ, is_some, Some, None, Option, refl}
+use Rattle.std.specs.Prelude.{◌≡◌, ℕ, Bool, true, false, cond, [], ◌∷◌, ℤ, is_some, Some, None, Option, int_le, refl}
 use Rattle.std.proofs.Common.{sym, ◌∙◌, ap, subst, inl, inr}
 use Rattle.std.specs.Option.{option_map, unwrap_or, option_zip}
 use Rattle.interval_arithmetic.specs.declared.kind.Arithmetic.{Arithmetic}
 use Rattle.interval_arithmetic.specs.Ends.{Within, One, Inside, meet}
-use Rattle.interval_arithmetic.specs.Laws.{Laws, Next, Previous, Numbered, Counted}
+use Rattle.interval_arithmetic.specs.Laws.{Laws, NextBy, Numbered, Counted}
 use Rattle.interval_arithmetic.specs.Sound.{of_two, Yields}
 use Rattle.interval_arithmetic.proofs.Pairs.{Keeps, PairInside, covers_one, covers_two, narrows_two, pair_inside, pair_keeps}
-use Rattle.interval_arithmetic.proofs.Meets.{none_some, meet_keeps, meet_right}
+use Rattle.interval_arithmetic.proofs.Meets.{meet_keeps, meet_right}
+use Rattle.std.proofs.lemmas.Option.{none-some}
 use Rattle.kinds.specs.declared.whole.WholeRange.{WholeRange}
 use Rattle.kinds.specs.declared.whole.WholeSort.TheVariants.{Whole}
-use Rattle.kinds.specs.Whole.{fit64, left_of, right_of, cut_left, cut_right, whole_order, whole}
+use Rattle.kinds.specs.Whole.{inside, fit64, left_of, right_of, cut_left, cut_right, whole_order, whole}
 use Rattle.kinds.specs.WholeEnds as W
 use Rattle.kinds.specs.WholeLaws.{whole_laws, left_holds, right_holds}
 use Rattle.time.specs.declared.TimeSort.{TimeSort}
@@ -19,13 +20,13 @@ use Rattle.time.specs.declared.Time.{Time}
 use Rattle.time.specs.declared.TimeRange.{TimeRange}
 use Rattle.time.specs.declared.TimeLiteral.{TimeLiteral}
 use Rattle.time.specs.declared.TimeLiteral.TheVariants as literal
-use Rattle.time.specs.Time.{of_sort, range_of, fits_of, is_span, resulting, applied, negated, forward_of, is_sort, results_in, bounded, at_left, at_right, arm, of_sorts, backward_of, admitted, time_order, time}
+use Rattle.time.specs.Time.{of_sort, range_of, is_time, fits_of, is_span, resulting, applied, negated, forward_of, is_sort, results_in, bounded, at_left, at_right, arm, of_sorts, backward_of, admitted, time_order, time}
 use Rattle.time.specs.TimeEnds.{same_self, is_parts, is_from, value_is, sort_parts, sort_from, within_up, within_down, one_up, one_down, inside_up}
 
 -- ---- values
 
 result_parts : (f : Option TimeSort) (n : Option ℤ) (c : Time) → resulting f n ≡ Some c → (f ≡ Some c.sort) × (n ≡ Some c.nanoseconds)
-result_parts None n c h = absurd (none_some h)
+result_parts None n c h = absurd (none-some _ h)
 result_parts (Some s) n c h = let p = sort_parts s n c h in (ap Some p.0, p.1)
 
 -- a result's sort is the one that fits, its nanoseconds are the result of the nanoseconds
@@ -44,7 +45,7 @@ applied_is op s t a b c p q h =
 
 negated_parts : (a b : Time) (t : Bool) → cond t (option_map (of_sort a.sort) (whole.negate a.nanoseconds)) None ≡ Some b → (t ≡ true) × (a.sort ≡ b.sort) × (whole.negate a.nanoseconds ≡ Some b.nanoseconds)
 negated_parts a b true h = let p = sort_parts a.sort (whole.negate a.nanoseconds) b h in (refl, p.0, p.1)
-negated_parts a b false h = absurd (none_some h)
+negated_parts a b false h = absurd (none-some _ h)
 
 negated_is : (s : TimeSort) (a b : Time) → time_order.is s a ≡ true → negated a ≡ Some b → (is_span s ≡ true) × (time_order.is s b ≡ true) × (negated b ≡ Some a)
 negated_is s a b p h =
@@ -219,13 +220,10 @@ backward_keeps op p l r a b c wa wb h wc =
 
 -- ---- the other questions
 
-next_up : (s : TimeSort) (a : Time) (n : Option ℤ) → s ≡ a.sort → Next whole_order Whole a.nanoseconds n → Next time_order s a (option_map (of_sort a.sort) n)
-next_up s a None e h = λ b p. h b.nanoseconds (is_parts s b p).1
-next_up s a (Some c) e h = (is_from s (of_sort a.sort c) e h.0, h.1, λ b p k. h.2 b.nanoseconds (is_parts s b p).1 k)
-
-previous_up : (s : TimeSort) (a : Time) (n : Option ℤ) → s ≡ a.sort → Previous whole_order Whole a.nanoseconds n → Previous time_order s a (option_map (of_sort a.sort) n)
-previous_up s a None e h = λ b p. h b.nanoseconds (is_parts s b p).1
-previous_up s a (Some c) e h = (is_from s (of_sort a.sort c) e h.0, h.1, λ b p k. h.2 b.nanoseconds (is_parts s b p).1 k)
+-- the next value in an order of the nanoseconds
+next_up : (leq : ℤ → ℤ → Bool) (s : TimeSort) (a : Time) (n : Option ℤ) → s ≡ a.sort → NextBy inside leq a.nanoseconds n → NextBy (is_time s) (λ v w. leq v.nanoseconds w.nanoseconds) a (option_map (of_sort a.sort) n)
+next_up leq s a None e h = λ b p. h b.nanoseconds (is_parts s b p).1
+next_up leq s a (Some c) e h = (is_from s (of_sort a.sort c) e h.0, h.1, λ b p k. h.2 b.nanoseconds (is_parts s b p).1 k)
 
 numbered_up : (r : TimeRange) (n : ℕ) → Numbered whole_order r.nanoseconds n → Numbered time_order r n
 numbered_up r n w = record {
@@ -258,7 +256,7 @@ admitted_is (literal.Step m d n) v h = by_zero _ h
   where
     by_zero : (t : Bool) → cond t (option_map (of_sort Step) (fit64 n)) None ≡ Some v → (u : TimeSort) × (time_order.is u v ≡ true)
     by_zero true k = admitted_fits Step n v k
-    by_zero false k = absurd (none_some k)
+    by_zero false k = absurd (none-some _ k)
 
 pub time_laws : Laws time_order time
 time_laws = record {
@@ -269,8 +267,8 @@ time_laws = record {
   negate_sort = λ r e. refl;
   negate = λ r. covers_one negated r (time.arithmetic_negate r) (negate_holds r) (negate_one r);
   backward = λ op p l r. narrows_two (Within time_order) (Inside time_order) l r (Yields (Within time_order) (of_two (applied op)) p) (backward_of op p l r) (backward_inside op p l r) (λ a b wa wb h. backward_keeps op p l r a b h.0 wa wb h.1 h.2);
-  nexts = λ s a p. let i = is_parts s a p in next_up s a (whole.next a.nanoseconds) i.0 (whole_laws.nexts Whole a.nanoseconds i.1);
-  previouses = λ s a p. let i = is_parts s a p in previous_up s a (whole.previous a.nanoseconds) i.0 (whole_laws.previouses Whole a.nanoseconds i.1);
+  nexts = λ s a p. let i = is_parts s a p in next_up int_le s a (whole.next a.nanoseconds) i.0 (whole_laws.nexts Whole a.nanoseconds i.1);
+  previouses = λ s a p. let i = is_parts s a p in next_up (λ m n. int_le n m) s a (whole.previous a.nanoseconds) i.0 (whole_laws.previouses Whole a.nanoseconds i.1);
   counts = λ r. counted_up r (whole.count r.nanoseconds) (whole_laws.counts r.nanoseconds);
   admits = admitted_is;
 }
