@@ -12,7 +12,7 @@ use Rattle.interval_arithmetic.proofs.Meets.{fair_from, lower_is, upper_is, meet
 use Rattle.kinds.specs.declared.whole.WholeRange.{WholeRange}
 use Rattle.kinds.specs.declared.whole.WholeSort.{WholeSort}
 use Rattle.kinds.specs.declared.whole.WholeSort.TheVariants.{Whole}
-use Rattle.kinds.specs.Whole.{inside, fit64, range, lower_of, upper_of, whole_order, end_by, negated_end, sum, difference, negated_range, applied, forward_of, left_of, right_of, paired, then_right, backward_of, count_ends, whole}
+use Rattle.kinds.specs.Whole.{inside, fit64, range, lower_of, upper_of, whole_order, end_by, sum_end, difference_end, negated_end, sum, difference, negated_range, applied, forward_of, left_of, right_of, paired, then_right, backward_of, count_ends, whole}
 use Rattle.kinds.specs.Integers as Z
 use Rattle.interval_arithmetic.proofs.Plain.{fit_was, fit_is, fit_end, open_fit}
 use Rattle.kinds.specs.WholeEnds.{range_made, range_within, order_laws}
@@ -38,17 +38,35 @@ negated_open : (p r : ℤ → Type 0) → ((a : ℤ) → p a → r (neg_ℤ a)) 
 negated_open p r keeps None h = tt
 negated_open p r keeps (Some a) h = open_fit inside r (neg_ℤ a) (keeps a h)
 
+sum_above : (a b : Option ℤ) (x y : ℤ) → Above whole_order a x → Above whole_order b y → Above whole_order (sum_end a b) (x +ℤ y)
+sum_above a b x y = end_by_open (λ a b. a +ℤ b) _ _ (λ c. int_le c (x +ℤ y) ≡ true) (λ a b. Z.sum_mono a b x y) a b
+
+sum_below : (a b : Option ℤ) (x y : ℤ) → Below whole_order a x → Below whole_order b y → Below whole_order (sum_end a b) (x +ℤ y)
+sum_below a b x y = end_by_open (λ a b. a +ℤ b) _ _ (λ c. int_le (x +ℤ y) c ≡ true) (λ a b. Z.sum_mono x y a b) a b
+
+difference_above : (a b : Option ℤ) (x y : ℤ) → Above whole_order a x → Below whole_order b y → Above whole_order (difference_end a b) (x -ℤ y)
+difference_above a b x y = end_by_open (λ a b. a -ℤ b) _ _ (λ c. int_le c (x -ℤ y) ≡ true) (λ a b. Z.difference_mono a b x y) a b
+
+difference_below : (a b : Option ℤ) (x y : ℤ) → Below whole_order a x → Above whole_order b y → Below whole_order (difference_end a b) (x -ℤ y)
+difference_below a b x y = end_by_open (λ a b. a -ℤ b) _ _ (λ c. int_le (x -ℤ y) c ≡ true) (λ a b. Z.difference_mono x y a b) a b
+
+negated_above : (b : Option ℤ) (x : ℤ) → Below whole_order b x → Above whole_order (negated_end b) (neg_ℤ x)
+negated_above b x = negated_open _ (λ c. int_le c (neg_ℤ x) ≡ true) (λ b. Z.negated_mono x b) b
+
+negated_below : (a : Option ℤ) (x : ℤ) → Above whole_order a x → Below whole_order (negated_end a) (neg_ℤ x)
+negated_below a x = negated_open _ (λ c. int_le (neg_ℤ x) c ≡ true) (λ a. Z.negated_mono a x) a
+
 sum_holds : (l r : WholeRange) (x y : ℤ) → Within whole_order l x → Within whole_order r y → inside (x +ℤ y) ≡ true → Within whole_order (sum l r) (x +ℤ y)
 sum_holds l r x y p q i =
     range_within _ _ (x +ℤ y) (end_by_is (λ a b. a +ℤ b) (lower_of l) (lower_of r)) (end_by_is (λ a b. a +ℤ b) (upper_of l) (upper_of r)) i
-    (end_by_open (λ a b. a +ℤ b) _ _ (λ c. int_le c (x +ℤ y) ≡ true) (λ a b. Z.sum_mono a b x y) (lower_of l) (lower_of r) p.above q.above)
-    (end_by_open (λ a b. a +ℤ b) _ _ (λ c. int_le (x +ℤ y) c ≡ true) (λ a b. Z.sum_mono x y a b) (upper_of l) (upper_of r) p.below q.below)
+    (sum_above (lower_of l) (lower_of r) x y p.above q.above)
+    (sum_below (upper_of l) (upper_of r) x y p.below q.below)
 
 difference_holds : (l r : WholeRange) (x y : ℤ) → Within whole_order l x → Within whole_order r y → inside (x -ℤ y) ≡ true → Within whole_order (difference l r) (x -ℤ y)
 difference_holds l r x y p q i =
     range_within _ _ (x -ℤ y) (end_by_is (λ a b. a -ℤ b) (lower_of l) (upper_of r)) (end_by_is (λ a b. a -ℤ b) (upper_of l) (lower_of r)) i
-    (end_by_open (λ a b. a -ℤ b) _ _ (λ c. int_le c (x -ℤ y) ≡ true) (λ a b. Z.difference_mono a b x y) (lower_of l) (upper_of r) p.above q.below)
-    (end_by_open (λ a b. a -ℤ b) _ _ (λ c. int_le (x -ℤ y) c ≡ true) (λ a b. Z.difference_mono x y a b) (upper_of l) (lower_of r) p.below q.above)
+    (difference_above (lower_of l) (upper_of r) x y p.above q.below)
+    (difference_below (upper_of l) (lower_of r) x y p.below q.above)
 
 forward_holds : (op : Arithmetic) (l r : WholeRange) (x y z : ℤ) → Within whole_order l x → Within whole_order r y → applied op x y ≡ Some z → Within whole_order (forward_of op l r) z
 forward_holds Plus l r x y z p q e = let f = fit_was inside (x +ℤ y) z e in subst (λ v. Within whole_order (sum l r) v) f.1 (sum_holds l r x y p q f.0)
@@ -59,8 +77,7 @@ negate_holds r x y p e =
     let f = fit_was inside (neg_ℤ x) y e in
     subst (λ v. Within whole_order (negated_range r) v) f.1
     (range_within _ _ (neg_ℤ x) (negated_end_is (upper_of r)) (negated_end_is (lower_of r)) f.0
-    (negated_open _ (λ c. int_le c (neg_ℤ x) ≡ true) (λ b. Z.negated_mono x b) (upper_of r) p.below)
-    (negated_open _ (λ c. int_le (neg_ℤ x) c ≡ true) (λ a. Z.negated_mono a x) (lower_of r) p.above))
+    (negated_above (upper_of r) x p.below) (negated_below (lower_of r) x p.above))
 
 -- both ends are the value z, so the range is that value
 one_from : (l u : Option ℤ) (z : ℤ) → inside z ≡ true → l ≡ Some z → u ≡ Some z → One whole_order (range l u) z
