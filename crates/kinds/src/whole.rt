@@ -98,8 +98,8 @@ impl Neg for WholeRange {
     fn neg(self) -> WholeRange {
         let (low, high) = self.ends();
         WholeRange {
-            low: high.and_then(|a| a.checked_neg()),
-            high: low.and_then(|a| a.checked_neg()),
+            low: high.and_then(i64::checked_neg),
+            high: low.and_then(i64::checked_neg),
         }
     }
 }
