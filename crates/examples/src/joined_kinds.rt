@@ -1,81 +1,58 @@
 // Worked examples over three kinds in one: whole numbers, beside time joined with whole numbers again.
+use crate::common::{is_refused, is_same, leaves, stamps as time_stamps, whole};
 use answers::truth::Truth;
 use interval_arithmetic::compare::{Comparison, compare};
-use interval_arithmetic::ends::{contains, intersect, try_new};
+use interval_arithmetic::ends::{intersect, try_new};
 use interval_arithmetic::greater::satisfy_greater;
 use interval_arithmetic::kind::{Arithmetic, Kind, Ranges};
 use joined::Joined;
 use kinds::whole::{WholeRange, WholeSort};
-use std::process::Abort;
-use std::test::Fail;
-use time::{TimeRange, TimeSort};
+use time::TimeRange;
 
 type Three = Joined<WholeRange, Joined<TimeRange, WholeRange>>;
 
-fn whole(low: i64, high: i64) -> WholeRange {
-    WholeRange {
-        low: Some(low),
-        high: Some(high),
-    }
-}
-
+// Whole numbers, as ranges of the first kind.
 fn first(low: i64, high: i64) -> Three {
     Joined::First(whole(low, high))
 }
 
+// Stamps, as ranges of the second kind.
 fn stamps(low: i64, high: i64) -> Three {
-    Joined::Second(Joined::First(TimeRange {
-        sort: TimeSort::Stamp,
-        nanoseconds: whole(low, high),
-    }))
+    Joined::Second(Joined::First(time_stamps(low, high)))
 }
 
+// Whole numbers again, as ranges of the third kind.
 fn third(low: i64, high: i64) -> Three {
     Joined::Second(Joined::Second(whole(low, high)))
 }
 
-// The two ranges contain each other, so they are equal.
-fn is_range(rt: &impl Abort, r: Three, wanted: Three) -> Result<(), Fail> {
-    assert_eq!(rt; contains(r, wanted), Truth::True);
-    assert_eq!(rt; contains(wanted, r), Truth::True);
-    Ok(())
-}
-
-fn leaves(rt: &impl Abort, pair: Option<(Three, Three)>, l: Three, r: Three) -> Result<(), Fail> {
-    match pair {
-        Some(found) => {
-            is_range(rt, found.0, l)?;
-            is_range(rt, found.1, r)
-        }
-        None => Err(Fail::new("nothing is left")),
-    }
-}
-
 #[test]
-fn questions_go_to_the_kind_they_are_about(rt: HostRuntime) -> Result<(), Fail> {
-    is_range(
-        &rt,
-        Three::forward(Arithmetic::Plus, third(0, 10), third(2, 2)),
-        third(2, 12),
-    )?;
-    leaves(
-        &rt,
-        Three::backward(Arithmetic::Plus, third(6, 12), third(0, 10), third(2, 2)),
-        third(4, 10),
-        third(2, 2),
-    )?;
-    leaves(
-        &rt,
-        satisfy_greater(stamps(0, 10), stamps(3, 20), true),
-        stamps(4, 10),
-        stamps(3, 9),
-    )?;
+fn questions_go_to_the_kind_they_are_about(rt: HostRuntime) {
+    assert!(rt;
+        is_same(
+            Three::forward(Arithmetic::Plus, third(0, 10), third(2, 2)),
+            third(2, 12),
+        )
+    );
+    assert!(rt;
+        leaves(
+            Three::backward(Arithmetic::Plus, third(6, 12), third(0, 10), third(2, 2)),
+            third(4, 10),
+            third(2, 2),
+        )
+    );
+    assert!(rt;
+        leaves(
+            satisfy_greater(stamps(0, 10), stamps(3, 20), true),
+            stamps(4, 10),
+            stamps(3, 9),
+        )
+    );
     assert_eq!(rt; stamps(0, 10).count(), Some(11));
-    Ok(())
 }
 
 #[test]
-fn nothing_goes_across_kinds(rt: HostRuntime) -> Result<(), Fail> {
+fn nothing_goes_across_kinds(rt: HostRuntime) {
     assert!(rt; intersect(first(0, 9), third(0, 9)).is_none());
     assert!(rt; Three::backward(Arithmetic::Plus, third(0, 9), first(0, 9), third(0, 9)).is_none());
     assert!(rt; !Three::same_sort(first(0, 9).sort(), third(0, 9).sort()));
@@ -89,11 +66,5 @@ fn nothing_goes_across_kinds(rt: HostRuntime) -> Result<(), Fail> {
         Some(Joined::First(1)),
         Some(Joined::Second(Joined::Second(5))),
     );
-    match across {
-        Ok(_) => Err(Fail::new("a range of two kinds was made")),
-        Err(refusal) => {
-            assert_eq!(rt; refusal.number(), 1);
-            Ok(())
-        },
-    }
+    assert!(rt; is_refused(across));
 }

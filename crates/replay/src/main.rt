@@ -14,25 +14,99 @@ ghost use Rattle.std.specs.Prelude.{◌≡◌, ◌&&◌, ◌==◌};
 mod operators;
 mod words;
 
-use anyhow::anyhow;
+use anyhow::{anyhow, ensure};
 use operators::{Answer, Question};
-use std::{env, fs, io};
+use std::{env, fmt, fs, io};
+use thiserror::Error;
 use words::{Unreadable, Words};
 
 // How many lines that disagree are printed, and how many that cannot be read.
 const SHOWN: u64 = 20;
 
-// What came of a line.
+// What came of a line that can be read and does not disagree.
 #[derive(Clone, Copy)]
 enum Outcome {
     NoCall,
     PassedOver,
     Agreed,
-    Disagreed(Answer, Answer),
+}
+
+// What is wrong with a line.
+#[derive(Clone, Copy, Debug, Error)]
+enum Fault<'a> {
+    #[error("{input}: expected {expected}, came {came}")]
+    Disagreed {
+        input: &'a str,
+        expected: Answer,
+        came: Answer,
+    },
+    #[error(transparent)]
+    Unreadable(#[from] Unreadable),
+}
+
+// Whether a line that begins with this word has no answer: a comment, or a part of a case around its calls.
+fn asks_nothing(word: &str) -> bool {
+    matches!(
+        word,
+        "operator" | "graph" | "analyze" | "end" | "schema" | "literals" | "records" | "context"
+    ) || word.starts_with('#')
+}
+
+// Whether a line that begins with this word is a call that no library has.
+fn has_no_library(word: &str) -> bool {
+    matches!(
+        word,
+        "build"
+            | "gather"
+            | "assign"
+            | "evaluate"
+            | "update"
+            | "update_intervals"
+            | "get"
+            | "nodes"
+            | "answer"
+    )
+}
+
+// The part of a line before its answer.
+fn input_of(line: &str) -> &str {
+    line.split_once(" = ").map_or(line, |(input, _)| input)
+}
+
+// Compares what the libraries answer with what the rest of the line expects.
+fn ask<'a>(question: Question, words: &mut Words<'_>, line: &'a str) -> Result<Outcome, Fault<'a>> {
+    words.pass("=")?;
+    let expected = question.expected(words)?;
+    words.finish()?;
+    match question.answer() {
+        None => Ok(Outcome::PassedOver),
+        Some(came) if came == expected => Ok(Outcome::Agreed),
+        Some(came) => Err(Fault::Disagreed {
+            input: input_of(line),
+            expected,
+            came,
+        }),
+    }
+}
+
+// Reads a line, and makes its call where it has one.
+fn replay_line(line: &str) -> Result<Outcome, Fault<'_>> {
+    let mut words = Words::new(line);
+    let Some(first) = words.next_word() else {
+        return Ok(Outcome::NoCall);
+    };
+    let question = match first {
+        "forward" => Question::read_forward(&mut words)?,
+        "backward" => Question::read_backward(&mut words)?,
+        _ if asks_nothing(first) => return Ok(Outcome::NoCall),
+        _ if has_no_library(first) => return Ok(Outcome::PassedOver),
+        _ => return Err(Unreadable("a call, the head or the end of a case, or a comment").into()),
+    };
+    ask(question, &mut words, line)
 }
 
 // How many calls of a file went which way.
-#[derive(Clone, Copy)]
+#[derive(Clone, Copy, Default)]
 struct Tally {
     agreed: u64,
     disagreed: u64,
@@ -40,68 +114,7 @@ struct Tally {
     unreadable: u64,
 }
 
-// Compares what the libraries answer with what the line expects.
-fn ask(question: Question, words: &mut Words<'_>) -> Result<Outcome, Unreadable> {
-    words.pass("=")?;
-    let expected = question.expected(words)?;
-    words.finish()?;
-    match question.answer() {
-        None => Ok(Outcome::PassedOver),
-        Some(came) if came == expected => Ok(Outcome::Agreed),
-        Some(came) => Ok(Outcome::Disagreed(expected, came)),
-    }
-}
-
-// Whether a line that begins with this word has no answer: a comment, or a part of a case around its calls.
-fn asks_nothing(word: &str) -> bool {
-    match word {
-        "operator" | "graph" | "analyze" | "end" => true,
-        "schema" | "literals" | "records" | "context" => true,
-        _ => word.starts_with('#'),
-    }
-}
-
-// Whether a line that begins with this word is a call that no library has.
-fn has_no_library(word: &str) -> bool {
-    match word {
-        "build" | "gather" | "assign" | "evaluate" | "update" | "update_intervals" => true,
-        "get" | "nodes" | "answer" => true,
-        _ => false,
-    }
-}
-
-// Reads a line, and makes its call where it has one.
-fn replay_line(line: &str) -> Result<Outcome, Unreadable> {
-    let mut words = Words::new(line);
-    let Some(first) = words.next_word() else {
-        return Ok(Outcome::NoCall);
-    };
-    match first {
-        "forward" => {
-            let question = Question::forward(&mut words)?;
-            ask(question, &mut words)
-        }
-        "backward" => {
-            let question = Question::backward(&mut words)?;
-            ask(question, &mut words)
-        }
-        _ if asks_nothing(first) => Ok(Outcome::NoCall),
-        _ if has_no_library(first) => Ok(Outcome::PassedOver),
-        _ => Err(Unreadable::new("a call, the head or the end of a case, or a comment")),
-    }
-}
-
 impl Tally {
-    // No calls yet.
-    fn new() -> Tally {
-        Tally {
-            agreed: 0,
-            disagreed: 0,
-            passed_over: 0,
-            unreadable: 0,
-        }
-    }
-
     // Whether every line was read and no call disagreed.
     fn is_clean(self) -> bool
         ensures { result ≡ (self.disagreed == 0 && self.unreadable == 0) }
@@ -109,81 +122,60 @@ impl Tally {
         self.disagreed == 0 && self.unreadable == 0
     }
 
-    // Counts what came of a line.
-    fn count(&mut self, outcome: Outcome) {
-        match outcome {
-            Outcome::NoCall => {}
-            Outcome::PassedOver => self.passed_over = self.passed_over.saturating_add(1),
-            Outcome::Agreed => self.agreed = self.agreed.saturating_add(1),
-            Outcome::Disagreed(_, _) => self.disagreed = self.disagreed.saturating_add(1),
+    // Counts what came of a line, and gives how many lines before it came to the same.
+    fn count(&mut self, came: Result<Outcome, Fault<'_>>) -> u64 {
+        let count = match came {
+            Ok(Outcome::NoCall) => return 0,
+            Ok(Outcome::PassedOver) => &mut self.passed_over,
+            Ok(Outcome::Agreed) => &mut self.agreed,
+            Err(Fault::Disagreed { .. }) => &mut self.disagreed,
+            Err(Fault::Unreadable(_)) => &mut self.unreadable,
+        };
+        let before = *count;
+        *count = before.saturating_add(1);
+        before
+    }
+}
+
+impl fmt::Display for Tally {
+    fn fmt<W: fmt::Write>(&self, f: &mut fmt::Formatter<W>) -> fmt::Result {
+        let Tally {
+            agreed,
+            disagreed,
+            passed_over,
+            unreadable,
+        } = *self;
+        write!(
+            f,
+            "{agreed} agreed, {disagreed} disagreed, {passed_over} passed over"
+        )?;
+        if unreadable > 0 {
+            write!(f, ", {unreadable} lines that cannot be read")?;
         }
-    }
-
-    // Counts a line that cannot be read.
-    fn count_unreadable(&mut self) {
-        self.unreadable = self.unreadable.saturating_add(1);
+        Ok(())
     }
 }
 
-// The part of a line before its answer.
-fn input_of(line: &str) -> &str {
-    match line.split_once(" = ") {
-        Some(parts) => parts.0,
-        None => line,
-    }
-}
-
-// Replays one line, counts it, and prints it where it disagrees or cannot be read.
-fn replay_counted(rt: &impl Print, tally: &mut Tally, number: usize, line: &str) -> io::Result<()> {
-    match replay_line(line) {
-        Ok(outcome) => {
-            if let Outcome::Disagreed(expected, came) = outcome {
-                if tally.disagreed < SHOWN {
-                    let input = input_of(line);
-                    println!(rt; "line {number}: {input}: expected {expected}, came {came}")?;
-                }
-            }
-            tally.count(outcome);
-        }
-        Err(unreadable) => {
-            if tally.unreadable < SHOWN {
-                println!(rt; "line {number}: {unreadable}")?;
-            }
-            tally.count_unreadable();
-        }
-    }
-    Ok(())
-}
-
-// Prints how the calls of a file went.
-fn print_summary(rt: &impl Print, name: &str, tally: Tally) -> io::Result<()> {
-    let agreed = tally.agreed;
-    let disagreed = tally.disagreed;
-    let passed_over = tally.passed_over;
-    let unreadable = tally.unreadable;
-    print!(rt; "{name}: {agreed} agreed, {disagreed} disagreed, {passed_over} passed over")?;
-    if unreadable > 0 {
-        print!(rt; ", {unreadable} lines that cannot be read")?;
-    }
-    println!(rt; "")
-}
-
-// Replays a text; whether every line was read and no call disagreed.
+// Replays a text, prints what is wrong with its lines and how its calls went; whether every line was
+// read and no call disagreed.
 fn replay_text(rt: &impl Print, name: &str, text: &str) -> io::Result<bool> {
-    let mut tally = Tally::new();
-    for (place, line) in text.lines().enumerate() {
-        replay_counted(rt, &mut tally, place.saturating_add(1), line)?;
+    let mut tally = Tally::default();
+    for (number, line) in (1u64..).zip(text.lines()) {
+        let came = replay_line(line);
+        let before = tally.count(came);
+        match came {
+            Err(fault) if before < SHOWN => println!(rt; "line {number}: {fault}")?,
+            _ => {}
+        }
     }
-    print_summary(rt, name, tally)?;
+    println!(rt; "{name}: {tally}")?;
     Ok(tally.is_clean())
 }
 
 // Replays the file at this path.
 fn replay_file(rt: &HostRuntime, path: &str) -> anyhow::Result<bool> {
-    match fs::read_to_string(rt, path) {
-        Ok(text) => Ok(replay_text(rt, path, text.as_str())?),
-        Err(error) => Err(anyhow!(format!(in rt.alloc(); "{path}: {error}")?)),
-    }
+    let text = fs::read_to_string(rt, path).map_err(|error| anyhow!("{path}: {error}"))?;
+    Ok(replay_text(rt, path, text.as_str())?)
 }
 
 // Replays the standard input.
@@ -195,47 +187,39 @@ fn replay_input(rt: &HostRuntime) -> anyhow::Result<bool> {
 // Prints what the program does and how it is called.
 fn print_help(rt: &impl Print) -> io::Result<()> {
     println!(rt;
-        "Makes each call of a vector file that the libraries have, and compares the answers."
-    )?;
-    println!(rt;
-        "Prints each call that disagrees, the first {SHOWN} of a file, and how many agreed."
-    )?;
-    println!(rt; "Ends with status 1 where a call disagrees or a line cannot be read.")?;
-    println!(rt; "")?;
-    println!(rt;
-        "usage: replay [FILE...]     replay these files; the standard input where none is given"
-    )?;
-    println!(rt; "       replay --help        print this")
+        "Makes each call of a vector file that the libraries have, and compares the answers.
+Prints each call that disagrees, the first {SHOWN} of a file, and how many agreed.
+Ends with status 1 where a call disagrees or a line cannot be read.
+
+usage: replay [FILE...]     replay these files; the standard input where none is given
+       replay --help        print this"
+    )
 }
 
 // Replays what the arguments name; whether every line was read and no call disagreed.
 fn replay_all(rt: &HostRuntime) -> anyhow::Result<bool> {
-    let mut paths = env::args(rt)?;
-    let _program = paths.next();
-    let Some(first) = paths.next() else {
-        return replay_input(rt);
-    };
-    if first.as_str() == "--help" {
-        print_help(rt)?;
-        return Ok(true);
+    let mut paths = env::args(rt)?.skip(1).peekable();
+    match paths.peek().map(|path| path.as_str()) {
+        None => return replay_input(rt),
+        Some("--help") => {
+            print_help(rt)?;
+            return Ok(true);
+        }
+        Some(_) => {}
     }
-    let mut clean = replay_file(rt, first.as_str())?;
+    let mut clean = true;
     for path in paths {
-        clean = replay_file(rt, path.as_str())? && clean;
+        clean &= replay_file(rt, path.as_str())?;
     }
     Ok(clean)
 }
 
-// Replays what the arguments name; an error where a call disagrees or a line cannot be read.
-fn run(rt: &HostRuntime) -> anyhow::Result<()> {
-    if replay_all(rt)? {
-        Ok(())
-    } else {
-        Err(anyhow!("a call disagrees or a line cannot be read"))
-    }
-}
-
-// Replays what the arguments name; an error that comes is printed, and the status is 1.
+// Replays what the arguments name; an error where a call disagrees or a line cannot be read. An error
+// that comes is printed, and the status is 1.
 fn main(rt: HostRuntime) -> anyhow::Result<()> {
-    run(&rt)
+    ensure!(
+        replay_all(&rt)?,
+        "a call disagrees or a line cannot be read"
+    );
+    Ok(())
 }

@@ -1,30 +1,21 @@
 // The words of a line: sorts, ends and ranges as a vector file writes them.
+ghost use Rattle.std.specs.Prelude.{◌≡◌};
+ghost use Rattle.replay.specs.Calls.{whole_in, written_whole};
+
 use answers::truth::Truth;
+use interval_arithmetic::kind::Ranges;
+use kinds::whole::WholeRange;
 use std::fmt;
-use std::str::SplitWhitespace;
+use std::str::{FromStr, SplitWhitespace};
+use thiserror::Error;
 
 // What was expected where a line cannot be read.
-#[derive(Clone, Copy)]
-pub struct Unreadable {
-    wanted: &'static str,
-}
-
-impl Unreadable {
-    // This was expected.
-    pub fn new(wanted: &'static str) -> Unreadable {
-        Unreadable { wanted }
-    }
-}
-
-impl fmt::Display for Unreadable {
-    fn fmt<W: fmt::Write>(&self, f: &mut fmt::Formatter<W>) -> fmt::Result {
-        let wanted = self.wanted;
-        write!(f, "expected {wanted}")
-    }
-}
+#[derive(Clone, Copy, Debug, Error)]
+#[error("expected {0}")]
+pub struct Unreadable(pub &'static str);
 
 // The sorts of numbers.
-#[derive(Clone, Copy, PartialEq, Eq)]
+#[derive(Clone, Copy, Debug, PartialEq, Eq)]
 pub enum Sort {
     Whole,
     Stamp,
@@ -32,27 +23,37 @@ pub enum Sort {
     Step,
 }
 
+impl fmt::Display for Sort {
+    fn fmt<W: fmt::Write>(&self, f: &mut fmt::Formatter<W>) -> fmt::Result {
+        f.write_str(self.letter())
+    }
+}
+
 impl Sort {
     // The letter that stands for the sort.
-    fn letter(self) -> char {
+    fn letter(self) -> &'static str {
         match self {
-            Sort::Whole => 'w',
-            Sort::Stamp => 't',
-            Sort::Span => 'd',
-            Sort::Step => 's',
+            Sort::Whole => "w",
+            Sort::Stamp => "t",
+            Sort::Span => "d",
+            Sort::Step => "s",
         }
     }
 }
 
-// A range as it is written: what is known of a Boolean, or the lower and the upper end of numbers of a
-// sort, none where an end is open.
-#[derive(Clone, Copy, PartialEq, Eq)]
-pub enum Written {
-    Boolean(Truth),
-    Number(Sort, Option<i64>, Option<i64>),
+// A sort by its letter.
+impl FromStr for Sort {
+    type Err = Unreadable;
+
+    fn from_str(word: &str) -> Result<Sort, Unreadable> {
+        [Sort::Whole, Sort::Stamp, Sort::Span, Sort::Step]
+            .into_iter()
+            .find(|sort| sort.letter() == word)
+            .ok_or(Unreadable("a sort: w, t, d, s or b"))
+    }
 }
 
-// An end as it is written, `*` where it is open.
+// A range's end as it is written, `*` where it is open.
 #[derive(Clone, Copy)]
 struct End(Option<i64>);
 
@@ -65,6 +66,49 @@ impl fmt::Display for End {
     }
 }
 
+// An end by its word: a number of 64 bits, or `*`.
+impl FromStr for End {
+    type Err = Unreadable;
+
+    fn from_str(word: &str) -> Result<End, Unreadable> {
+        if word == "*" {
+            return Ok(End(None));
+        }
+        word.parse()
+            .map(|value| End(Some(value)))
+            .map_err(|_| Unreadable("a range's end: a number of 64 bits or *"))
+    }
+}
+
+// A range as it is written: what is known of a Boolean, or the lower and the upper end of numbers of a
+// sort, none where an end is open.
+#[derive(Clone, Copy, Debug, PartialEq, Eq)]
+pub enum Written {
+    Boolean(Truth),
+    Number(Sort, Option<i64>, Option<i64>),
+}
+
+impl Written {
+    // The range as one of whole numbers; none for another sort.
+    pub fn whole(self) -> Option<WholeRange>
+        ensures { result ≡ whole_in self }
+    {
+        match self {
+            Written::Number(Sort::Whole, lower, upper) => WholeRange::try_new(lower, upper).ok(),
+            _ => None,
+        }
+    }
+}
+
+// A range of whole numbers as it is written.
+impl From<WholeRange> for Written {
+    ghost from_gives = { λ range written. written ≡ written_whole range };
+
+    fn from(range: WholeRange) -> Written {
+        Written::Number(Sort::Whole, range.lower(), range.upper())
+    }
+}
+
 impl fmt::Display for Written {
     fn fmt<W: fmt::Write>(&self, f: &mut fmt::Formatter<W>) -> fmt::Result {
         match *self {
@@ -72,10 +116,7 @@ impl fmt::Display for Written {
             Written::Boolean(Truth::False) => write!(f, "b 0 0"),
             Written::Boolean(Truth::Unsure) => write!(f, "b 0 1"),
             Written::Number(sort, lower, upper) => {
-                let letter = sort.letter();
-                let low = End(lower);
-                let high = End(upper);
-                write!(f, "{letter} {low} {high}")
+                write!(f, "{sort} {} {}", End(lower), End(upper))
             }
         }
     }
@@ -100,67 +141,45 @@ impl<'a> Words<'a> {
         self.rest.next()
     }
 
-    // The next word, which has to be there.
-    pub fn word(&mut self, wanted: &'static str) -> Result<&'a str, Unreadable> {
-        self.next_word().ok_or(Unreadable::new(wanted))
+    // What the next word stands for; the line's end is read as an empty word.
+    pub fn parse<T: FromStr<Err = Unreadable>>(&mut self) -> Result<T, Unreadable> {
+        self.next_word().unwrap_or_default().parse()
     }
 
     // Passes this word, which has to come next.
     pub fn pass(&mut self, word: &'static str) -> Result<(), Unreadable> {
-        if self.word(word)? == word {
+        if self.next_word() == Some(word) {
             Ok(())
         } else {
-            Err(Unreadable::new(word))
-        }
-    }
-
-    // A range's end: a number of 64 bits, or `*` for an open one.
-    fn end(&mut self) -> Result<Option<i64>, Unreadable> {
-        let wanted = "a range's end: a number of 64 bits or *";
-        let word = self.word(wanted)?;
-        if word == "*" {
-            return Ok(None);
-        }
-        match word.parse::<i64>() {
-            Ok(value) => Ok(Some(value)),
-            Err(_) => Err(Unreadable::new(wanted)),
+            Err(Unreadable(word))
         }
     }
 
     // The two ends of a range of numbers.
     fn numbers(&mut self, sort: Sort) -> Result<Written, Unreadable> {
-        let lower = self.end()?;
-        let upper = self.end()?;
-        match (lower, upper) {
-            (Some(a), Some(b)) if b < a => Err(Unreadable::new(
-                "a lower end at or below the upper",
-            )),
-            _ => Ok(Written::Number(sort, lower, upper)),
+        let End(lower) = self.parse()?;
+        let End(upper) = self.parse()?;
+        if lower.zip(upper).is_some_and(|(a, b)| b < a) {
+            return Err(Unreadable("a lower end at or below the upper"));
         }
+        Ok(Written::Number(sort, lower, upper))
     }
 
     // The two ends of a range of Booleans.
-    fn truth(&mut self) -> Result<Written, Unreadable> {
-        let wanted = "the ends of a Boolean range: 0 0, 0 1 or 1 1";
-        let lower = self.word(wanted)?;
-        match (lower, self.word(wanted)?) {
-            ("1", "1") => Ok(Written::Boolean(Truth::True)),
-            ("0", "0") => Ok(Written::Boolean(Truth::False)),
-            ("0", "1") => Ok(Written::Boolean(Truth::Unsure)),
-            _ => Err(Unreadable::new(wanted)),
+    fn truth(&mut self) -> Result<Truth, Unreadable> {
+        match (self.next_word(), self.next_word()) {
+            (Some("1"), Some("1")) => Ok(Truth::True),
+            (Some("0"), Some("0")) => Ok(Truth::False),
+            (Some("0"), Some("1")) => Ok(Truth::Unsure),
+            _ => Err(Unreadable("the ends of a Boolean range: 0 0, 0 1 or 1 1")),
         }
     }
 
     // A range: its sort, its lower end and its upper end.
     pub fn range(&mut self) -> Result<Written, Unreadable> {
-        let wanted = "a sort: w, t, d, s or b";
-        match self.word(wanted)? {
-            "w" => self.numbers(Sort::Whole),
-            "t" => self.numbers(Sort::Stamp),
-            "d" => self.numbers(Sort::Span),
-            "s" => self.numbers(Sort::Step),
-            "b" => self.truth(),
-            _ => Err(Unreadable::new(wanted)),
+        match self.next_word().unwrap_or_default() {
+            "b" => Ok(Written::Boolean(self.truth()?)),
+            sort => self.numbers(sort.parse()?),
         }
     }
 
@@ -168,7 +187,7 @@ impl<'a> Words<'a> {
     pub fn finish(&mut self) -> Result<(), Unreadable> {
         match self.next_word() {
             None | Some("|") => Ok(()),
-            Some(_) => Err(Unreadable::new("the end of the answer")),
+            Some(_) => Err(Unreadable("the end of the answer")),
         }
     }
 }
