@@ -6,10 +6,11 @@ use Rattle.interval_arithmetic.specs.declared.compare.Comparison.{Comparison}
 use Rattle.interval_arithmetic.specs.declared.compare.Comparison.TheVariants.{Gt, GtEq, Lt, LtEq, Eq}
 use Rattle.answers.specs.declared.truth.Truth.TheVariants.{True, False}
 use Rattle.interval_arithmetic.specs.Compare.{compare_of}
-use Rattle.interval_arithmetic.specs.Ends.{meet}
+use Rattle.interval_arithmetic.specs.Ends.{meet, try_new_of}
 use Rattle.interval_arithmetic.specs.Greater.{greater}
 use Rattle.kinds.specs.declared.whole.WholeRange.{WholeRange}
-use Rattle.kinds.specs.Whole.{lower_of, upper_of, try_new_of, negated_range, forward_of, backward_of, whole_order, whole}
+use Rattle.kinds.specs.declared.whole.WholeSort.TheVariants.{Whole}
+use Rattle.kinds.specs.Whole.{lower_of, upper_of, negated_range, forward_of, backward_of, whole_order, whole}
 use Rattle.replay.specs.declared.words.Sort.TheVariants as sorts
 use Rattle.replay.specs.declared.words.Written.{Written}
 use Rattle.replay.specs.declared.words.Written.TheVariants.{Boolean, Number}
@@ -28,7 +29,7 @@ o >>= f = option_and_then f o
 
 -- a written range as one of whole numbers
 abbrev pub whole_in : Written → Option WholeRange
-whole_in (Number sorts.Whole l u) = result_ok (try_new_of l u)
+whole_in (Number sorts.Whole l u) = result_ok (try_new_of whole_order Whole l u)
 whole_in _ = None
 
 -- a range of whole numbers as it is written, and as those of the children
