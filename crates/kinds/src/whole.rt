@@ -15,7 +15,7 @@ pub enum WholeSort {
 }
 
 // The numbers between two ends, each a number or open; crossed ends are read as swapped.
-#[derive(Clone, Copy)]
+#[derive(Clone, Copy, Default)]
 pub struct WholeRange {
     pub low: Option<i64>,
     pub high: Option<i64>,
