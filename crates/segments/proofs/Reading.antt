@@ -1,5 +1,5 @@
 -- What is read of a text, as the functions of `src/segment.rt` and `src/filter.rt` put it together. Assumes nothing.
-use Rattle.std.proofs.Common.{◌≡◌, ℕ, ◌<◌, Bool, true, false, cond, List, [], ◌∷◌, ◌++◌, length, get_or, ℤ, is_some, Some, None, Ok, Err, Decides, MatchBool, MatchOption, MatchResult, Option, Result, sym, refl, ◌∙◌, subst, inl, inr, append_assoc, append-nil, arith, length-append}
+use Rattle.std.proofs.Common.{◌≡◌, ℕ, ◌<◌, Bool, true, false, cond, List, [], ◌∷◌, ◌++◌, length, ℤ, is_some, Some, None, Ok, Err, MatchOption, MatchResult, Option, Result, sym, refl, ◌∙◌, subst, inl, inr, append_assoc, append-nil, arith, length-append}
 use Rattle.std.proofs.Math.Seq.{get_or-append_seam}
 use lib.Signed.{le_z}
 use Rattle.std.specs.Char.{is_whitespace, is_not_whitespace}
@@ -10,12 +10,12 @@ use Rattle.std.specs.Borrow.{Bor}
 use Rattle.std.specs.declared.str.SplitWhitespace.{SplitWhitespace}
 use Rattle.std.specs.Str.Iter.{split_whitespace_rest, split_whitespace_steps}
 use Rattle.std.proofs.lemmas.List.Elements.{All-nil, All-push}
-use Rattle.std.proofs.lemmas.Bool.{and_parts, both_ways, false≢true}
-use Rattle.interval_arithmetic.specs.Ends.{end_is, uncrossed, fair}
+use Rattle.std.proofs.lemmas.Bool.{false≢true}
+use Rattle.interval_arithmetic.specs.Ends.{fair}
 use Rattle.interval_arithmetic.proofs.Meets.{fair_from}
 use Rattle.kinds.specs.declared.whole.WholeRange.{WholeRange}
 use Rattle.kinds.specs.Whole.{inside, range, or_refused, try_new_of}
-use Rattle.segments.specs.Texts.{Said, EndIs, BoundsAre, ColumnIs, First, Words, Other, Gives, SegmentSays, symbol_of, FilterSays, Begins, Comment, Content}
+use Rattle.segments.specs.Texts.{Said, EndIs, BoundsAre, ColumnIs, First, Words, Other, Gives, SegmentSays, symbol_of, FilterSays}
 use Rattle.segments.specs.declared.filter.Filter.{Filter}
 use Rattle.segments.specs.declared.segment.Segment.{Segment}
 use Rattle.segments.proofs.Unique.{first_same, blank_none, words_same, column_same, end_same, bounds_cut, end_fits}
@@ -29,20 +29,15 @@ said_mapped says Q (Err d) (Err e) h v k = k
 module _ {bs : List ℕ} (xs ys : List ℕ) (cut : bs ≡ xs ++ (46 ∷ 46 ∷ ys)) where
   -- the ends of bounds are what stands on the two sides of the dots
   pub ends_of : {r : WholeRange} → BoundsAre bs r → EndIs xs r.low × EndIs ys r.high
-  ends_of {r} b = let parts = bounds_cut b cut in (subst (λ x. EndIs x r.low) parts.0 b.lower, subst (λ x. EndIs x r.high) parts.1 b.upper)
+  ends_of b = grind (arith, bounds_cut b cut, b.lower, b.upper)
 
   pub try_new_says : (l u : Option ℤ) → EndIs xs l → EndIs ys u → Said (BoundsAre bs) (try_new_of l u)
   try_new_says l u low high = by (fair inside le_z l u) refl
     where
       by : (t : Bool) → fair inside le_z l u ≡ t → Said (BoundsAre bs) (or_refused (cond t (Some (range l u)) None))
-      by true f =
-          let parts = and_parts (end_is inside u) (uncrossed le_z l u) (and_parts (end_is inside l) _ f).1 in
-          record { front = xs; back = ys; cut = cut; lower = low; upper = high; fair = parts.1 }
+      by true f = record { front = xs; back = ys; cut = cut; lower = low; upper = high; fair = grind (arith, f) }
       by false f = λ r b.
-          let ends = ends_of b in
-          let same_low = end_same xs r.low l ends.0 low in
-          let same_high = end_same ys r.high u ends.1 high in
-          both_ways _ f (fair_from inside le_z l u (end_fits xs l low) (end_fits ys u high) (rw (same_low, same_high) at b.fair))
+          grind (arith, end_same xs r.low l (ends_of b).0 low, end_same ys r.high u (ends_of b).1 high, fair_from inside le_z l u (end_fits xs l low) (end_fits ys u high), b.fair, f)
 
 -- what `split_whitespace` says of an item
 pub first_of : (text bs w rest : List ℕ) → bs ≡ text → (gap : List ℕ) × (bs ≡ gap ++ (w ++ rest)) × (0 < length w) × NoCharPasses is_not_whitespace gap × NoCharPasses is_whitespace w × ((more : List ℕ) × EmptyOrStartsWithPassing is_whitespace rest more) → First text w rest
@@ -97,10 +92,10 @@ gives_other name (v ∷ ws) w o (inr p) k = inr (p.0, p.1, p.2, All-push (Other 
 gives_this : (name : List ℕ) (ws : List (List ℕ)) (w : List ℕ) (r : WholeRange) → Gives name ws None → ColumnIs w name r → Gives name (ws ++ (w ∷ [])) (Some r)
 gives_this name [] w r h k = inr (r, refl, k, All-nil (Other name))
 gives_this name (v ∷ ws) w r (inl p) k = inl (p.0, gives_this name ws w r p.1 k)
-gives_this name (v ∷ ws) w r (inr p) k = let e : None ≡ Some p.0 = p.1 in cc
+gives_this name (v ∷ ws) w r (inr p) k = absurd (grind (arith, p.1))
 
 other_at : (name : List ℕ) (us vs : List (List ℕ)) (w : List ℕ) → All (Other name) (us ++ (w ∷ vs)) → Other name w
-other_at name us vs w h = subst (Other name) (get_or-append_seam us w vs []) (h (length us) [] (omega (arith, length-append us (w ∷ vs))))
+other_at name us vs w h = subst (Other name) (get_or-append_seam us w vs []) (h (length us) [] (simp length-append (omega arith)))
 
 other_not : {name w : List ℕ} {r : WholeRange} → Other name w → ColumnIs w name r → ⊥
 other_not o k = o.3 (column_same o.2 k)
@@ -155,11 +150,6 @@ module _ {text rest name : List ℕ} {o : Option WholeRange} (old : Sofar text r
       by : (p : Option WholeRange) → is_some p ≡ true → Gives name old.seen p → (us : List (List ℕ)) → Gives name (old.seen ++ (w ∷ us)) q → ⊥
       by None e h us g = false≢true e
       by (Some p) e h us g = gives_once name old.seen us w p r q h k g
-
--- a line that is not blank is a comment just where `#` comes first
-pub by_mark : (bs t : List ℕ) (r : Bool) → Begins bs t → 0 < length t → Decides r (get_or t 0 0 ≡ 35) → MatchBool r (Comment bs) (Content bs)
-by_mark bs t true b some d = (t, b, inr (d.0 refl))
-by_mark bs t false b some d = (t, b, some, λ e. false≢true (d.1 e))
 
 -- where the line reads as another segment, its name and its columns are the same
 pub segment_words : {bs column w rest : List ℕ} {s : Segment} → First bs w rest → (k : SegmentSays bs column s) → (s.name.now ≡ w) × Words rest k.columns

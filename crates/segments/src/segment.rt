@@ -69,6 +69,7 @@ fn bounds_in<'a>(words: SplitWhitespace<'a>, column: &str) -> Result<Option<Whol
 }
 
 // Whether the line is blank or begins with `#`.
+#[tactic(auto, using(std::proofs::lemmas::Str::Pattern::starts_char))]
 fn is_comment(line: &str) -> bool
     ensures { MatchBool result (Comment line.now) (Content line.now) }
 {

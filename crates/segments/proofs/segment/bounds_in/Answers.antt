@@ -1,10 +1,10 @@
-use Rattle.std.proofs.Common.{◌≡◌, [], true, is_some, sym, refl, ap, ◌∙◌, subst}
+use Rattle.std.proofs.Common.{◌≡◌, true, is_some, sym, refl, ap, ◌∙◌, subst}
 use Rattle.std.specs.Str.Iter.{split_whitespace_rest}
 use Rattle.std.proofs.lemmas.Bool.{both_ways}
 use Rattle.std.proofs.lemmas.Result.{MatchResult-from_err}
 use Rattle.std.proofs.lemmas.Slice.Eq.{bytes_eq-Decides}
 use Rattle.segments.specs.Texts.{ColumnIs, First}
-use Rattle.segments.proofs.Reading.{none_seen, all_seen, first_of, one_other, one_this, no_column, no_second}
+use Rattle.segments.proofs.Reading.{all_seen, first_of, one_other, one_this, no_column, no_second}
 use Rattle.segments.proofs.segment.bounds_in.Goals as goal
 use Rattle.segments.proofs.segment.bounds_in.Goals.{In-Some, After-eq, else-eq-via-then-eq+else-is_some, else-eq-via-else-eq}
 
@@ -15,9 +15,6 @@ this_column : (c : After-eq) → c.eq.result ≡ true → ColumnIs c.in-Some.wor
 this_column c e =
     let same = (bytes_eq-Decides c.in_ok-name.name.now c.args.column.now).0 (sym c.eq.ensures ∙ e) in
     subst (λ n. ColumnIs c.in-Some.word.now n c.in_ok-name.bounds) same c.in_ok-name.ensures
-
-pub loop-word-init : goal.loop-word-init
-loop-word-init c = record { seen = []; words = none_seen (ap split_whitespace_rest c.into_iter-word-iterator.ensures.into_iter_gives); gives = refl }
 
 pub loop-word-preserved : goal.loop-word-preserved
 loop-word-preserved c =

@@ -1,4 +1,4 @@
-use Rattle.std.proofs.Common.{◌≡◌, ℕ, ◌<◌, List, length, sym, subst, arith, rules}
+use Rattle.std.proofs.Common.{◌≡◌, ℕ, List, sym, subst, arith, rules}
 use Rattle.std.proofs.lemmas.Result.{MatchResult-from_err}
 use Rattle.std.proofs.lemmas.Str.Pattern.{split_parts, split_after}
 use Rattle.kinds.specs.declared.whole.WholeRange.{WholeRange}
@@ -13,12 +13,6 @@ parts_of c {name} k = rw c.in_ok-name.ensures.ok_part at (split_after 61 c.args.
 pub returns-in_err-name : goal.returns-in_err-name
 returns-in_err-name c = MatchResult-from_err _ _ _ c.from_residual.ensures.0 (λ _ name r k.
     rw c.in_err-name.ensures.ok_part at (split_after 61 c.args.word.now name k.back c.split_once.result c.split_once.ensures.cases (omega arith) k.cut k.plain))
-
-pub returns-then-is_empty : goal.returns-then-is_empty
-returns-then-is_empty c = λ name r k.
-    let same = parts_of (goal.at.returns-then-is_empty c).In_ok-name k in
-    let some : 0 < length c.in_ok-name.name.now = subst (λ x. 0 < length x) (sym same.0) k.named in
-    search rules
 
 pub returns-in_err-bounds : goal.returns-in_err-bounds
 returns-in_err-bounds c = MatchResult-from_err _ _ _ c.from_residual-in_err-bounds.ensures.0 (λ _ name r k.

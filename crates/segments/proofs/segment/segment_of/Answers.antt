@@ -1,6 +1,5 @@
-use Rattle.std.proofs.Common.{subst, arith}
+use Rattle.std.proofs.Common.{subst, arith, rules}
 use Rattle.std.specs.Str.Iter.{LacksByte, split_whitespace_rest}
-use Rattle.std.proofs.lemmas.Bool.{both_ways}
 use Rattle.std.proofs.lemmas.Result.{MatchResult-from_err}
 use Rattle.std.proofs.lemmas.Str.Pattern.{contains_char}
 use Rattle.segments.specs.Texts.{First}
@@ -32,6 +31,6 @@ returns c =
     record {
       columns = given.0;
       words = (split_whitespace_rest c.next.new.self, first_in (goal.at.returns c).In_ok-name, given.1);
-      plain = λ k l e. both_ways _ c.if-contains.false (has.1 k l e);
+      plain = search (rules, has);
       gives = given.2;
     }

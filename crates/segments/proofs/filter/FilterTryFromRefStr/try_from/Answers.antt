@@ -2,7 +2,6 @@ use Rattle.std.proofs.Common.{◌∷◌, [], sym, subst, arith, rules}
 use Rattle.std.specs.Str.Iter.{LacksByte}
 use Rattle.std.proofs.lemmas.Result.{MatchResult-from_err}
 use Rattle.std.proofs.lemmas.Str.Pattern.{contains_char}
-use Rattle.std.proofs.lemmas.Bool.{both_ways}
 use Rattle.segments.specs.Texts.{Reads, Words, symbol_of}
 use Rattle.segments.proofs.Reading.{filter_words}
 use Rattle.segments.proofs.filter.FilterTryFromRefStr.try_from.Goals as goal
@@ -38,6 +37,6 @@ returns c =
     record {
       number = c.in_ok-column.number.now;
       words = rw c.in_ok-parse_operator.ensures.said at (words_of (goal.at.returns c).In_ok-column);
-      plain = λ k l e. both_ways _ c.if-contains.false (has.1 k l e);
+      plain = search (rules, has);
       value = search rules;
     }
