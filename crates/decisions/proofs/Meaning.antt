@@ -1,21 +1,19 @@
 -- A decision says what it means for the numbers within the bounds. Assumes nothing.
-use Rattle.std.proofs.Common.{◌≡◌, true, ℤ, is_some, Some, sym, refl, ap, subst}
+use Rattle.std.proofs.Common.{◌≡◌, true, ℤ, is_some, Some, refl, ap, arith}
 use lib.Signed.{le_z}
 use Rattle.interval_arithmetic.specs.declared.compare.Comparison.{Comparison}
 use Rattle.answers.specs.declared.truth.Truth.{Truth}
 use Rattle.answers.specs.declared.truth.Truth.TheVariants.{True, False, Unsure}
-use Rattle.interval_arithmetic.specs.Ends.{Above, Below, Within}
+use Rattle.interval_arithmetic.specs.Ends.{Within}
 use Rattle.interval_arithmetic.specs.Laws.{Made}
 use Rattle.interval_arithmetic.proofs.Meets.{fair_from}
-use Rattle.interval_arithmetic.specs.Compare.{Compares, compare_of, Compared}
-use Rattle.interval_arithmetic.proofs.Comparisons.{compared}
+use Rattle.interval_arithmetic.specs.Compare.{Compared}
 use Rattle.kinds.specs.declared.whole.WholeRange.{WholeRange}
 use Rattle.kinds.specs.declared.whole.WholeSort.TheVariants.{Whole}
 use Rattle.kinds.specs.Whole.{inside, range, whole_order}
 use Rattle.kinds.specs.Integers.{leq_refl, leq_antisym}
-use Rattle.kinds.specs.WholeEnds.{order_laws, range_made, range_within}
-use Rattle.decisions.specs.declared.Decision.{Decision}
-use Rattle.decisions.specs.Decisions.{decision_of, decide_of, Decides}
+use Rattle.kinds.specs.WholeEnds.{range_made, range_within}
+use Rattle.decisions.specs.Decisions.{decision_of, Decides}
 
 -- the range of one number holds it
 one_within : (v : ℤ) → inside v ≡ true → Within whole_order (range (Some v) (Some v)) v
@@ -26,23 +24,17 @@ one_made v i = range_made Whole (Some v) (Some v) (fair_from inside le_z (Some v
 
 -- and nothing else
 one_only : (v y : ℤ) → inside v ≡ true → Within whole_order (range (Some v) (Some v)) y → y ≡ v
-one_only v y i w =
-    let m = one_made v i in
-    leq_antisym y v (subst (λ e. Below whole_order e y) m.high w.below) (subst (λ e. Above whole_order e y) m.low w.above)
+one_only v y i w = grind (arith, one_made v i, leq_antisym y v, w.below, w.above)
 
-by_truth : (c : Comparison) (b : WholeRange) (v : ℤ) → inside v ≡ true → (t : Truth) → Compared whole_order c b (range (Some v) (Some v)) t → Decides c b v (decision_of t)
-by_truth c b v i True h = λ x w. h x v w (one_within v i)
-by_truth c b v i False h = λ x w. h x v w (one_within v i)
-by_truth c b v i Unsure h = λ bounded.
+-- a decision by what is known of the comparison with that range means what is decided
+pub decides : (c : Comparison) (b : WholeRange) (v : ℤ) (t : Truth) → inside v ≡ true → Compared whole_order c b (range (Some v) (Some v)) t → Decides c b v (decision_of t)
+decides c b v True i h = search (arith, h, one_within)
+decides c b v False i h = search (arith, h, one_within)
+decides c b v Unsure i h = λ bounded.
     let m = one_made v i in
     let some = h refl bounded (ap is_some m.low, ap is_some m.high) in
     let p = some.0 in
-    let q = some.1 in (
-      (p.left, p.left_held, subst (λ y. Compares whole_order c p.left y) (one_only v p.right i p.right_held) p.relates),
-      (q.left, q.left_held, subst (λ y. Compares whole_order c q.left y → ⊥) (one_only v q.right i q.right_held) q.relates),
-    )
-
-pub decides : (c : Comparison) (b : WholeRange) (v : ℤ) (d : Decision) → inside v ≡ true → d ≡ decide_of c b v → Decides c b v d
-decides c b v d i e =
-    let t = compare_of whole_order c b (range (Some v) (Some v)) in
-    subst (λ x. Decides c b v x) (sym e) (by_truth c b v i t (compared order_laws c b (range (Some v) (Some v)) t refl))
+    let q = some.1 in
+    let one = one_only v p.right i p.right_held in
+    let other = one_only v q.right i q.right_held in
+    ((p.left, p.left_held, rw one at p.relates), (q.left, q.left_held, rw other at q.relates))

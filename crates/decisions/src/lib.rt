@@ -2,6 +2,7 @@
 #![tactic(auto)]
 
 ghost use Rattle.std.specs.Prelude.{◌≡◌, Some};
+ghost use Rattle.std.specs.Fmt.{padded};
 ghost use Rattle.decisions.specs.Decisions.{decision_of, decide_of, Decides, word_of, counted, total_of, tally_text};
 
 use answers::truth::Truth;
@@ -10,7 +11,7 @@ use kinds::whole::WholeRange;
 use std::fmt;
 
 // What to do with a segment.
-#[derive(Clone, Copy, PartialEq, Eq)]
+#[derive(Clone, Copy, Debug, PartialEq, Eq)]
 pub enum Decision {
     // No row matches.
     Skip,
@@ -20,23 +21,17 @@ pub enum Decision {
     Whole,
 }
 
-fn decision_by(truth: Truth) -> Decision
-    ensures { result ≡ decision_of truth }
-{
-    match truth {
-        Truth::True => Decision::Whole,
-        Truth::False => Decision::Skip,
-        Truth::Unsure => Decision::Read,
-    }
-}
+impl From<Truth> for Decision {
+    ghost from_gives = { λ truth decision. decision ≡ decision_of truth };
 
-// Hands on a decision, with what it means for the numbers within the bounds.
-fn deciding(comparison: Comparison, bounds: WholeRange, value: i64, answer: Decision) -> Decision
-    requires { answer ≡ decide_of comparison bounds value }
-    ensures value { result ≡ decide_of comparison bounds value }
-    ensures holds { Decides comparison bounds value result }
-{
-    answer
+    // What to do, by whether the filter holds of the rows.
+    fn from(truth: Truth) -> Decision {
+        match truth {
+            Truth::True => Decision::Whole,
+            Truth::False => Decision::Skip,
+            Truth::Unsure => Decision::Read,
+        }
+    }
 }
 
 // Skip where no number within the bounds compares so with `value`, Whole where every one does, else Read.
@@ -48,8 +43,7 @@ pub fn decide(comparison: Comparison, bounds: WholeRange, value: i64) -> Decisio
         low: Some(value),
         high: Some(value),
     };
-    let answer = decision_by(compare(comparison, bounds, one));
-    deciding(comparison, bounds, value, answer)
+    Decision::from(compare(comparison, bounds, one))
 }
 
 impl Decision {
@@ -65,8 +59,18 @@ impl Decision {
     }
 }
 
+impl fmt::Display for Decision {
+    ghost output = { λ decision. Some (word_of decision) };
+
+    ghost styled_output = { λ decision spec. Some (padded spec (word_of decision)) };
+
+    fn fmt<W: fmt::Write>(&self, f: &mut fmt::Formatter<W>) -> fmt::Result {
+        f.pad(self.word())
+    }
+}
+
 // How many segments got each decision; a count stays at its greatest.
-#[derive(Clone, Copy)]
+#[derive(Clone, Copy, Debug, Default, PartialEq, Eq)]
 pub struct Tally {
     pub skipped: u64,
     pub to_read: u64,
@@ -94,6 +98,7 @@ impl Tally {
         }
     }
 
+    // How many segments there were.
     fn total(self) -> u64
         ensures { result ≡ total_of self }
     {
@@ -108,9 +113,11 @@ impl fmt::Display for Tally {
 
     fn fmt<W: fmt::Write>(&self, f: &mut fmt::Formatter<W>) -> fmt::Result {
         let total = self.total();
-        let skipped = self.skipped;
-        let to_read = self.to_read;
-        let whole = self.whole;
+        let Tally {
+            skipped,
+            to_read,
+            whole,
+        } = self;
         write!(
             f,
             "{total} segments: {skipped} skipped, {to_read} to read, {whole} match whole"

@@ -1,97 +1,101 @@
 -- What is read of a text, as the functions of `src/segment.rt` and `src/filter.rt` put it together. Assumes nothing.
-use Rattle.std.proofs.Common.{◌≡◌, ℕ, ◌<◌, Bool, true, false, cond, ◌&&◌, List, [], ◌∷◌, ◌++◌, length, get_or, ℤ, is_some, Some, None, Ok, Err, codes, Decides, MatchBool, Option, Result, sym, refl, ap, ◌∙◌, subst, inl, inr, append_assoc, append-nil, arith, length-append}
-use mathlib.Core.List.{append_cancel_left}
+use Rattle.std.proofs.Common.{◌≡◌, ℕ, ◌<◌, Bool, true, false, cond, List, [], ◌∷◌, ◌++◌, length, ℤ, is_some, Some, None, Ok, Err, MatchOption, MatchResult, Option, Result, sym, refl, ◌∙◌, subst, inl, inr, append_assoc, append-nil, arith, length-append}
+use Rattle.std.proofs.Math.Seq.{get_or-append_seam}
 use lib.Signed.{le_z}
 use Rattle.std.specs.Char.{is_whitespace, is_not_whitespace}
+use Rattle.std.specs.List.{All}
+use Rattle.std.specs.Result.{is_ok}
 use Rattle.std.specs.Str.{NoCharPasses, EmptyOrStartsWithPassing}
-use Rattle.std.specs.Str.Iter.{LacksByte}
-use Rattle.std.proofs.lemmas.List.{get_or_at}
-use Rattle.std.proofs.lemmas.Bool.{and_parts, and_from, false≢true}
-use Rattle.answers.specs.declared.refusal.Refusal.{Refusal}
-use Rattle.interval_arithmetic.specs.Ends.{end_is, uncrossed, fair}
+use Rattle.std.specs.Borrow.{Bor}
+use Rattle.std.specs.declared.str.SplitWhitespace.{SplitWhitespace}
+use Rattle.std.specs.Str.Iter.{split_whitespace_rest, split_whitespace_steps}
+use Rattle.std.proofs.lemmas.List.Elements.{All-nil, All-push}
+use Rattle.std.proofs.lemmas.Bool.{false≢true}
+use Rattle.interval_arithmetic.specs.Ends.{fair}
+use Rattle.interval_arithmetic.proofs.Meets.{fair_from}
 use Rattle.kinds.specs.declared.whole.WholeRange.{WholeRange}
 use Rattle.kinds.specs.Whole.{inside, range, or_refused, try_new_of}
-use Rattle.segments.specs.Texts.{EndIs, BoundsAre, ColumnIs, First, Words, Other, Each, Gives, SegmentSays, symbol_of, FilterSays, Begins, Comment, Content}
+use Rattle.segments.specs.Texts.{Said, EndIs, BoundsAre, ColumnIs, First, Words, Other, Gives, SegmentSays, symbol_of, FilterSays}
 use Rattle.segments.specs.declared.filter.Filter.{Filter}
 use Rattle.segments.specs.declared.segment.Segment.{Segment}
-use Rattle.segments.proofs.Unique.{first_same, blank_none, words_same, before_same, column_same, end_same, bounds_cut, end_fits}
+use Rattle.segments.proofs.Unique.{first_same, blank_none, words_same, column_same, end_same, bounds_cut, end_fits}
 
--- bounds of two ends that are not crossed
-pub bounds_made : (bs front back : List ℕ) (l u : Option ℤ) (r : WholeRange) (m : Result WholeRange Refusal) → bs ≡ front ++ (codes ".." ++ back) → EndIs front l → EndIs back u → m ≡ Ok r → m ≡ try_new_of l u → BoundsAre bs r
-bounds_made bs front back l u r m cut low high e f = by_fair (fair inside le_z l u) refl (sym e ∙ f)
-  where
-    by_fair : (t : Bool) → fair inside le_z l u ≡ t → Ok r ≡ or_refused (cond t (Some (range l u)) None) → BoundsAre bs r
-    by_fair true f h =
-        let is : r ≡ range l u = cc in
-        let ends = and_parts (end_is inside u) (uncrossed le_z l u) (and_parts (end_is inside l) _ f).1 in
-        subst (λ x. BoundsAre bs x) (sym is) (record { front = front; back = back; cut = cut; lower = low; upper = high; fair = ends.1 })
-    by_fair false f h = let z : ◌≡◌ {A = ℕ} 0 1 = cc in let no : ⊥ = omega arith in absurd no
+-- another error says the same
+pub said_mapped : {X D E : Type 0} (says : X → Type 0) (Q : D → Type 0) (r : Result X D) (s : Result X E) → MatchResult r (λ x. s ≡ Ok x) Q → is_ok s ≡ is_ok r → Said says r → Said says s
+said_mapped says Q (Ok x) s h v k = rw h k
+said_mapped says Q (Err d) (Ok x) h v k = absurd (false≢true (sym v))
+said_mapped says Q (Err d) (Err e) h v k = k
 
 module _ {bs : List ℕ} (xs ys : List ℕ) (cut : bs ≡ xs ++ (46 ∷ 46 ∷ ys)) where
-  pub no_lower : ((e : Option ℤ) → EndIs xs e → ⊥) → (r : WholeRange) → BoundsAre bs r → ⊥
-  no_lower never r b = never r.low (subst (λ x. EndIs x r.low) (bounds_cut b cut).0 b.lower)
+  -- the ends of bounds are what stands on the two sides of the dots
+  pub ends_of : {r : WholeRange} → BoundsAre bs r → EndIs xs r.low × EndIs ys r.high
+  ends_of b = grind (arith, bounds_cut b cut, b.lower, b.upper)
 
-  pub no_upper : ((e : Option ℤ) → EndIs ys e → ⊥) → (r : WholeRange) → BoundsAre bs r → ⊥
-  no_upper never r b = never r.high (subst (λ x. EndIs x r.high) (bounds_cut b cut).1 b.upper)
-
-  pub no_crossed : (l u : Option ℤ) (e : Refusal) (m : Result WholeRange Refusal) → EndIs xs l → EndIs ys u → m ≡ Err e → m ≡ try_new_of l u → (r : WholeRange) → BoundsAre bs r → ⊥
-  no_crossed l u e m p q i h r b = refused (subst (λ t. Err e ≡ or_refused (cond t (Some (range l u)) None)) all_fair (sym i ∙ h))
+  pub try_new_says : (l u : Option ℤ) → EndIs xs l → EndIs ys u → Said (BoundsAre bs) (try_new_of l u)
+  try_new_says l u low high = by (fair inside le_z l u) refl
     where
-      low : r.low ≡ l
-      low = end_same xs r.low l (subst (λ x. EndIs x r.low) (bounds_cut b cut).0 b.lower) p
-
-      high : r.high ≡ u
-      high = end_same ys r.high u (subst (λ x. EndIs x r.high) (bounds_cut b cut).1 b.upper) q
-
-      all_fair : fair inside le_z l u ≡ true
-      all_fair =
-          and_from (end_is inside l) (end_is inside u && uncrossed le_z l u) (end_fits xs l p)
-          (and_from (end_is inside u) (uncrossed le_z l u) (end_fits ys u q) (subst (λ x. uncrossed le_z l x ≡ true) high (subst (λ x. uncrossed le_z x r.high ≡ true) low b.fair)))
-
-      refused : Err e ≡ Ok (range l u) → ⊥
-      refused k = let z : ◌≡◌ {A = ℕ} 0 1 = cc in omega arith
-
--- a word with no `=` is no column
-pub no_mark : (w name : List ℕ) (r : WholeRange) → LacksByte 61 w → ColumnIs w name r → ⊥
-no_mark w name r never k =
-    never (length name) (omega (arith, ap length k.cut, length-append name (61 ∷ k.back))) (ap (λ v. get_or v (length name) 0) k.cut ∙ get_or_at name 61 k.back 0 (length name) refl)
-
-module _ {w : List ℕ} (name back : List ℕ) (cut : w ≡ name ++ (61 ∷ back)) (plain : LacksByte 61 name) where
-  pub no_name : length name ≡ 0 → (n : List ℕ) (r : WholeRange) → ColumnIs w n r → ⊥
-  no_name e n r k = omega (arith, ap length (before_same 61 w n k.back name back k.cut cut k.plain plain), k.named)
-
-  pub no_bounds : ((r : WholeRange) → BoundsAre back r → ⊥) → (n : List ℕ) (r : WholeRange) → ColumnIs w n r → ⊥
-  no_bounds never n r k =
-      let e = before_same 61 w n k.back name back k.cut cut k.plain plain in
-      let rest = append_cancel_left name (61 ∷ k.back) (61 ∷ back) (ap (λ v. v ++ (61 ∷ k.back)) (sym e) ∙ (sym k.cut ∙ cut)) in
-      let same : k.back ≡ back = cc in
-      never r (subst (λ x. BoundsAre x r) same k.bounds)
+      by : (t : Bool) → fair inside le_z l u ≡ t → Said (BoundsAre bs) (or_refused (cond t (Some (range l u)) None))
+      by true f = record { front = xs; back = ys; cut = cut; lower = low; upper = high; fair = grind (arith, f) }
+      by false f = λ r b.
+          grind (arith, end_same xs r.low l (ends_of b).0 low, end_same ys r.high u (ends_of b).1 high, fair_from inside le_z l u (end_fits xs l low) (end_fits ys u high), b.fair, f)
 
 -- what `split_whitespace` says of an item
-pub first_of : (bs w rest : List ℕ) → (gap : List ℕ) × (bs ≡ gap ++ (w ++ rest)) × (0 < length w) × NoCharPasses is_not_whitespace gap × NoCharPasses is_whitespace w × ((more : List ℕ) × EmptyOrStartsWithPassing is_whitespace rest more) → First bs w rest
-first_of bs w rest cut = record { gap = cut.0; cut = cut.1; some = cut.2; blank = cut.3; solid = cut.4; ends = cut.5 }
+pub first_of : (text bs w rest : List ℕ) → bs ≡ text → (gap : List ℕ) × (bs ≡ gap ++ (w ++ rest)) × (0 < length w) × NoCharPasses is_not_whitespace gap × NoCharPasses is_whitespace w × ((more : List ℕ) × EmptyOrStartsWithPassing is_whitespace rest more) → First text w rest
+first_of text bs w rest e item = record { gap = item.0; cut = sym e ∙ item.1; some = item.2; blank = item.3; solid = item.4; ends = item.5 }
 
-pub first_in : {text bs w rest : List ℕ} → bs ≡ text → First bs w rest → First text w rest
-first_in {w = w} {rest = rest} e h = subst (λ x. First x w rest) e h
+-- the first word of a text is the first item of `split_whitespace`, which ends where there is no word
+pub first_item : {text : List ℕ} (s t : SplitWhitespace) (r : Option (Bor (List ℕ))) (w : List ℕ) (ws : List (List ℕ)) → split_whitespace_rest s ≡ text → split_whitespace_steps s r t → Words text (w ∷ ws) → MatchOption r ⊥ (λ x. x.now ≡ w) × Words (split_whitespace_rest t) ws
+first_item s t None w ws e step h = absurd (blank_none (subst (NoCharPasses is_not_whitespace) e step.1) h.1)
+first_item {text} s t (Some x) w ws e step h =
+    let same = first_same (first_of text (split_whitespace_rest s) x.now (split_whitespace_rest t) e step) h.1 in
+    (same.0, subst (λ v. Words v ws) (sym same.1) h.2)
 
-each_push : (p : List ℕ → Type 0) (ws : List (List ℕ)) (w : List ℕ) → Each p ws → p w → Each p (ws ++ (w ∷ []))
-each_push p [] w h k = (k, tt)
-each_push p (v ∷ ws) w h k = (h.0, each_push p ws w h.1 k)
+pub no_item : (s t : SplitWhitespace) (r : Option (Bor (List ℕ))) → split_whitespace_steps s r t → Words (split_whitespace_rest s) [] → MatchOption r (Unit {0}) (λ x. ⊥)
+no_item s t None step h = tt
+no_item s t (Some x) step h = blank_none h (first_of (split_whitespace_rest s) (split_whitespace_rest s) x.now (split_whitespace_rest t) refl step)
+
+-- the words of a text are those of the filter that it says
+pub filter_words : {bs a b c : List ℕ} {f : Filter} (k : FilterSays bs f) → Words bs (a ∷ b ∷ c ∷ []) → (f.column.now ≡ a) × (symbol_of f.comparison ≡ b) × (k.number ≡ c)
+filter_words {bs} {a} {b} {c} {f} k words =
+    let same = words_same bs (f.column.now ∷ symbol_of f.comparison ∷ k.number ∷ []) (a ∷ b ∷ c ∷ []) k.words words in
+    (cc, cc, cc)
+
+-- seen are the words of text before rest
+pub record Seen (text rest : List ℕ) (seen : List (List ℕ)) : Type 0 where
+  pub before : (ws : List (List ℕ)) → Words rest ws → Words text (seen ++ ws)
+  pub after : (vs : List (List ℕ)) → Words text vs → (ws : List (List ℕ)) × (vs ≡ seen ++ ws) × Words rest ws
+
+pub none_seen : {text rest : List ℕ} → rest ≡ text → Seen text rest []
+none_seen {text} e = subst (λ x. Seen text x []) (sym e) (record { before = λ ws h. h; after = λ vs h. (vs, refl, h) })
+
+pub one_seen : {text rest w next : List ℕ} {seen : List (List ℕ)} → Seen text rest seen → First rest w next → Seen text next (seen ++ (w ∷ []))
+one_seen {text} {rest} {w} {next} {seen} old first = record {
+  before = λ ws h. rw append_assoc (old.before (w ∷ ws) (next, first, h));
+  after = λ vs h. let k = old.after vs h in by vs k.0 k.1 k.2;
+}
+  where
+    by : (vs ws : List (List ℕ)) → vs ≡ seen ++ ws → Words rest ws → (us : List (List ℕ)) × (vs ≡ (seen ++ (w ∷ [])) ++ us) × Words next us
+    by vs [] e k = absurd (blank_none k first)
+    by vs (v ∷ us) e k =
+        let same = first_same k.1 first in
+        (us, rw append_assoc (subst (λ x. vs ≡ seen ++ (x ∷ us)) same.0 e), subst (λ x. Words x us) same.1 k.2)
+
+-- where nothing follows, the words of text are those seen
+pub all_seen : {text rest : List ℕ} {seen : List (List ℕ)} → Seen text rest seen → Words rest [] → Words text seen
+all_seen {text} {rest} {seen} old none = subst (Words text) (append-nil seen) (old.before [] none)
 
 gives_other : (name : List ℕ) (ws : List (List ℕ)) (w : List ℕ) (o : Option WholeRange) → Gives name ws o → Other name w → Gives name (ws ++ (w ∷ [])) o
 gives_other name [] w o h k = inl (k, h)
 gives_other name (v ∷ ws) w o (inl p) k = inl (p.0, gives_other name ws w o p.1 k)
-gives_other name (v ∷ ws) w o (inr p) k = inr (p.0, p.1, p.2, each_push (Other name) ws w p.3 k)
+gives_other name (v ∷ ws) w o (inr p) k = inr (p.0, p.1, p.2, All-push (Other name) ws w p.3 k)
 
 gives_this : (name : List ℕ) (ws : List (List ℕ)) (w : List ℕ) (r : WholeRange) → Gives name ws None → ColumnIs w name r → Gives name (ws ++ (w ∷ [])) (Some r)
-gives_this name [] w r h k = inr (r, refl, k, tt)
+gives_this name [] w r h k = inr (r, refl, k, All-nil (Other name))
 gives_this name (v ∷ ws) w r (inl p) k = inl (p.0, gives_this name ws w r p.1 k)
-gives_this name (v ∷ ws) w r (inr p) k =
-    let e : None ≡ Some p.0 = p.1 in let z : ◌≡◌ {A = ℕ} 0 1 = cc in let no : ⊥ = omega arith in absurd no
+gives_this name (v ∷ ws) w r (inr p) k = absurd (grind (arith, p.1))
 
-each_at : (p : List ℕ → Type 0) (us vs : List (List ℕ)) (w : List ℕ) → Each p (us ++ (w ∷ vs)) → p w
-each_at p [] vs w h = h.0
-each_at p (u ∷ us) vs w h = each_at p us vs w h.1
+other_at : (name : List ℕ) (us vs : List (List ℕ)) (w : List ℕ) → All (Other name) (us ++ (w ∷ vs)) → Other name w
+other_at name us vs w h = subst (Other name) (get_or-append_seam us w vs []) (h (length us) [] (simp length-append (omega arith)))
 
 other_not : {name w : List ℕ} {r : WholeRange} → Other name w → ColumnIs w name r → ⊥
 other_not o k = o.3 (column_same o.2 k)
@@ -101,136 +105,52 @@ gives_column : (name : List ℕ) (us vs : List (List ℕ)) (w : List ℕ) (o : O
 gives_column name [] vs w o (inl p) = (p.0.0, p.0.1, p.0.2)
 gives_column name [] vs w o (inr p) = (name, p.0, p.2)
 gives_column name (u ∷ us) vs w o (inl p) = gives_column name us vs w o p.1
-gives_column name (u ∷ us) vs w o (inr p) = let k = each_at (Other name) us vs w p.3 in (k.0, k.1, k.2)
+gives_column name (u ∷ us) vs w o (inr p) = let k = other_at name us vs w p.3 in (k.0, k.1, k.2)
 
 -- no two are of the name
 gives_once : (name : List ℕ) (us vs : List (List ℕ)) (w : List ℕ) (r q : WholeRange) (o : Option WholeRange) → Gives name us (Some r) → ColumnIs w name q → Gives name (us ++ (w ∷ vs)) o → ⊥
-gives_once name [] vs w r q o h k g = let z : ◌≡◌ {A = ℕ} 0 1 = cc in omega arith
+gives_once name [] vs w r q o h k g = cc
 gives_once name (u ∷ us) vs w r q o (inl h) k (inl g) = gives_once name us vs w r q o h.1 k g.1
 gives_once name (u ∷ us) vs w r q o (inl h) k (inr g) = other_not h.0 g.2
 gives_once name (u ∷ us) vs w r q o (inr h) k (inl g) = other_not g.0 h.2
-gives_once name (u ∷ us) vs w r q o (inr h) k (inr g) = other_not (each_at (Other name) us vs w g.3) k
+gives_once name (u ∷ us) vs w r q o (inr h) k (inr g) = other_not (other_at name us vs w g.3) k
 
 -- the loop's invariant: o is what the words of text before rest give
 pub record Sofar (text rest name : List ℕ) (o : Option WholeRange) : Type 0 where
   pub seen : List (List ℕ)
+  pub words : Seen text rest seen
   pub gives : Gives name seen o
-  pub before : (ws : List (List ℕ)) → Words rest ws → Words text (seen ++ ws)
-  pub after : (vs : List (List ℕ)) → Words text vs → (ws : List (List ℕ)) × (vs ≡ seen ++ ws) × Words rest ws
-
-pub none_yet : (text rest name : List ℕ) → rest ≡ text → Sofar text rest name None
-none_yet text rest name e = record {
-  seen = [];
-  gives = refl;
-  before = λ ws h. subst (λ x. Words x ws) e h;
-  after = λ vs h. (vs, refl, subst (λ x. Words x vs) (sym e) h);
-}
 
 module _ {text rest name : List ℕ} {o : Option WholeRange} (old : Sofar text rest name o) {w next : List ℕ} (first : First rest w next) where
-  more : (ws : List (List ℕ)) → Words next ws → Words text ((old.seen ++ (w ∷ [])) ++ ws)
-  more ws h = subst (Words text) (sym (append_assoc old.seen (w ∷ []) ws)) (old.before (w ∷ ws) (next, first, h))
-
-  -- the words of text are those seen, w, and those of what follows
-  split : (vs : List (List ℕ)) → Words text vs → (ws : List (List ℕ)) × (vs ≡ old.seen ++ (w ∷ ws)) × Words next ws
-  split vs h = let k = old.after vs h in by k.0 k.1 k.2
-    where
-      by : (ws : List (List ℕ)) → vs ≡ old.seen ++ ws → Words rest ws → (us : List (List ℕ)) × (vs ≡ old.seen ++ (w ∷ us)) × Words next us
-      by [] e k = absurd (blank_none k first)
-      by (u ∷ us) e k =
-          let same = first_same k.1 first in
-          (us, subst (λ x. vs ≡ old.seen ++ (x ∷ us)) same.0 e, subst (λ x. Words x us) same.1 k.2)
-
-  later : (vs : List (List ℕ)) → Words text vs → (ws : List (List ℕ)) × (vs ≡ (old.seen ++ (w ∷ [])) ++ ws) × Words next ws
-  later vs h = let k = split vs h in (k.0, k.1 ∙ sym (append_assoc old.seen (w ∷ []) k.0), k.2)
-
   pub one_other : Other name w → Sofar text next name o
-  one_other k = record { seen = old.seen ++ (w ∷ []); gives = gives_other name old.seen w o old.gives k; before = more; after = later }
+  one_other k = record { seen = old.seen ++ (w ∷ []); words = one_seen old.words first; gives = gives_other name old.seen w o old.gives k }
 
-  pub one_this : (r : WholeRange) → o ≡ None → ColumnIs w name r → Sofar text next name (Some r)
-  one_this r e k = record {
-    seen = old.seen ++ (w ∷ []);
-    gives = gives_this name old.seen w r (subst (λ x. Gives name old.seen x) e old.gives) k;
-    before = more;
-    after = later;
-  }
+  pub one_this : (r : WholeRange) → is_some o ≡ false → ColumnIs w name r → Sofar text next name (Some r)
+  one_this r e k = record { seen = old.seen ++ (w ∷ []); words = one_seen old.words first; gives = by o e old.gives }
+    where
+      by : (p : Option WholeRange) → is_some p ≡ false → Gives name old.seen p → Gives name (old.seen ++ (w ∷ [])) (Some r)
+      by None e h = gives_this name old.seen w r h k
+      by (Some p) e h = absurd (false≢true (sym e))
 
-  pub no_column : ((n : List ℕ) (r : WholeRange) → ColumnIs w n r → ⊥) → (vs : List (List ℕ)) (q : Option WholeRange) → Words text vs → Gives name vs q → ⊥
-  no_column never vs q h g =
-      let k = split vs h in
-      let c = gives_column name old.seen k.0 w q (subst (λ x. Gives name x q) k.1 g) in
-      never c.0 c.1 c.2
+  -- what the words give, with w among them
+  among : (vs : List (List ℕ)) (q : Option WholeRange) → Words text vs → Gives name vs q → (us : List (List ℕ)) × Gives name (old.seen ++ (w ∷ us)) q
+  among vs q h g =
+      let k = (one_seen old.words first).after vs h in
+      (k.0, subst (λ x. Gives name x q) (k.1 ∙ append_assoc old.seen (w ∷ []) k.0) g)
 
-  pub no_second : (r : WholeRange) → is_some o ≡ true → ColumnIs w name r → (vs : List (List ℕ)) (q : Option WholeRange) → Words text vs → Gives name vs q → ⊥
-  no_second r t c vs q h g = let k = split vs h in by o t old.gives k.0 (subst (λ x. Gives name x q) k.1 g)
+  pub no_column : ((n : List ℕ) (r : WholeRange) → ColumnIs w n r → ⊥) → (q : Option WholeRange) → (ws : List (List ℕ)) × Words text ws × Gives name ws q → ⊥
+  no_column never q h =
+      let g = among h.0 q h.1 h.2 in
+      let k = gives_column name old.seen g.0 w q g.1 in
+      never k.0 k.1 k.2
+
+  pub no_second : (r : WholeRange) → is_some o ≡ true → ColumnIs w name r → (q : Option WholeRange) → (ws : List (List ℕ)) × Words text ws × Gives name ws q → ⊥
+  no_second r t k q h = let g = among h.0 q h.1 h.2 in by o t old.gives g.0 g.1
     where
       by : (p : Option WholeRange) → is_some p ≡ true → Gives name old.seen p → (us : List (List ℕ)) → Gives name (old.seen ++ (w ∷ us)) q → ⊥
-      by None e k us g = false≢true e
-      by (Some p) e k us g = gives_once name old.seen us w p r q k c g
+      by None e h us g = false≢true e
+      by (Some p) e h us g = gives_once name old.seen us w p r q h k g
 
-pub no_more : {text rest name : List ℕ} {o : Option WholeRange} (old : Sofar text rest name o) → Words rest [] → Words text old.seen
-no_more {text} old none = subst (Words text) (append-nil old.seen) (old.before [] none)
-
--- a segment's line has a first word, which is the name
-pub no_words : {bs column : List ℕ} → Words bs [] → (s : Segment) → SegmentSays bs column s → ⊥
-no_words none s k = blank_none none k.words.1
-
-module _ {bs column w rest : List ℕ} (first : First bs w rest) where
-  pub no_plain : (LacksByte 61 w → ⊥) → (s : Segment) → SegmentSays bs column s → ⊥
-  no_plain never s k = never (subst (LacksByte 61) (first_same k.words.1 first).0 k.plain)
-
-  pub no_columns : ((ws : List (List ℕ)) (o : Option WholeRange) → Words rest ws → Gives column ws o → ⊥) → (s : Segment) → SegmentSays bs column s → ⊥
-  no_columns never s k = never k.columns k.given (subst (λ x. Words x k.columns) (first_same k.words.1 first).1 k.words.2) k.gives
-
--- a text of fewer words, or of more, is no filter
-pub no_filter_none : {bs : List ℕ} → Words bs [] → (f : Filter) → FilterSays bs f → ⊥
-no_filter_none none f k = blank_none none k.words.1
-
--- the words of a filter
-abbrev filter_words : {bs : List ℕ} (f : Filter) → FilterSays bs f → List (List ℕ)
-filter_words f k = f.column.now ∷ symbol_of f.comparison ∷ k.number ∷ []
-
-module _ {bs a x : List ℕ} (first : First bs a x) where
-  pub no_filter_one : Words x [] → (f : Filter) → FilterSays bs f → ⊥
-  no_filter_one none f k =
-      let same : filter_words f k ≡ a ∷ [] = words_same bs (filter_words f k) (a ∷ []) k.words (x, first, none) in
-      let z : ◌≡◌ {A = ℕ} 0 1 = cc in
-      omega arith
-
-  module _ {b y : List ℕ} (second : First x b y) where
-    pub no_filter_two : Words y [] → (f : Filter) → FilterSays bs f → ⊥
-    no_filter_two none f k =
-        let same : filter_words f k ≡ a ∷ b ∷ [] = words_same bs (filter_words f k) (a ∷ b ∷ []) k.words (x, first, (y, second, none)) in
-        let z : ◌≡◌ {A = ℕ} 0 1 = cc in
-        omega arith
-
-    pub no_filter_four : {c z d u : List ℕ} → First y c z → First z d u → (f : Filter) → FilterSays bs f → ⊥
-    no_filter_four third fourth f k =
-        let one = first_same k.words.1 first in
-        let rest = subst (λ v. Words v (symbol_of f.comparison ∷ k.number ∷ [])) one.1 k.words.2 in
-        let two = first_same rest.1 second in
-        let last = subst (λ v. Words v (k.number ∷ [])) two.1 rest.2 in
-        let three = first_same last.1 third in
-        blank_none (subst (λ v. NoCharPasses is_not_whitespace v) three.1 last.2) fourth
-
--- the words of the text are those of the filter
-module _ {bs column operator number : List ℕ} (words : Words bs (column ∷ operator ∷ number ∷ [])) (f : Filter) (k : FilterSays bs f) where
-  same_words : filter_words f k ≡ column ∷ operator ∷ number ∷ []
-  same_words = words_same bs (filter_words f k) (column ∷ operator ∷ number ∷ []) k.words words
-
-  pub filter_column : f.column.now ≡ column
-  filter_column = let same : filter_words f k ≡ column ∷ operator ∷ number ∷ [] = same_words in cc
-
-  pub filter_operator : symbol_of f.comparison ≡ operator
-  filter_operator = let same : filter_words f k ≡ column ∷ operator ∷ number ∷ [] = same_words in cc
-
-  pub filter_number : k.number ≡ number
-  filter_number = let same : filter_words f k ≡ column ∷ operator ∷ number ∷ [] = same_words in cc
-
--- a line that is not blank is a comment just where `#` comes first
-pub by_mark : (bs t : List ℕ) (r : Bool) → Begins bs t → 0 < length t → Decides r (get_or t 0 0 ≡ 35) → MatchBool r (Comment bs) (Content bs)
-by_mark bs t true b some d = (t, b, inr (d.0 refl))
-by_mark bs t false b some d = (t, b, some, λ e. false≢true (d.1 e))
-
-pub none_from : {X : Type 0} (o : Option X) → is_some o ≡ false → o ≡ None
-none_from None e = refl
-none_from (Some x) e = absurd (false≢true (sym e))
+-- where the line reads as another segment, its name and its columns are the same
+pub segment_words : {bs column w rest : List ℕ} {s : Segment} → First bs w rest → (k : SegmentSays bs column s) → (s.name.now ≡ w) × Words rest k.columns
+segment_words first k = let same = first_same k.words.1 first in (same.0, subst (λ x. Words x k.columns) same.1 k.words.2)

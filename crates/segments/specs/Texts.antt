@@ -1,5 +1,5 @@
 -- What the text of a segment's line or of a filter says. Assumes nothing.
-use Rattle.std.specs.Prelude.{◌≡◌, ℕ, ◌<◌, true, ◌⊎◌, List, [], ◌∷◌, ◌++◌, length, take, drop, ℤ, is_some, Some, None, Ok, Err, codes, Option, Result, FitsSigned, ◌≢◌, int_le, slice_index}
+use Rattle.std.specs.Prelude.{◌≡◌, ℕ, ◌<◌, true, ◌⊎◌, List, [], ◌∷◌, ◌++◌, length, take, drop, ℤ, Some, None, Ok, Err, codes, Option, Result, FitsSigned, ◌≢◌, int_le, slice_index, All, MatchResult}
 use Rattle.std.specs.Borrow.{Bor}
 use Rattle.std.specs.Int.{w64}
 use Rattle.std.specs.Option.{unwrap_or}
@@ -12,19 +12,12 @@ use Rattle.interval_arithmetic.specs.declared.compare.Comparison.TheVariants.{Gt
 use Rattle.interval_arithmetic.specs.Ends.{uncrossed}
 use Rattle.kinds.specs.declared.whole.WholeRange.{WholeRange}
 use Rattle.kinds.specs.Whole.{range}
-use Rattle.segments.specs.declared.fault.Expected.{Expected}
 use Rattle.segments.specs.declared.filter.Filter.{Filter}
 use Rattle.segments.specs.declared.segment.Segment.{Segment}
 
--- what was read is what the text says; e was expected only if the text says nothing
-abbrev pub Parsed : {X : Type 0} → (X → Type 0) → Expected → Result X Expected → Type 0
-Parsed says e (Ok x) = says x
-Parsed {X = X} says e (Err d) = (d ≡ e) × ((x : X) → says x → ⊥)
-
 -- what was read is what the text says; there is an error only if it says nothing
 abbrev pub Said : {X E : Type 0} → (X → Type 0) → Result X E → Type 0
-Said says (Ok x) = says x
-Said {X = X} says (Err e) = (x : X) → says x → ⊥
+Said {X = X} says r = MatchResult r says (λ _. (x : X) → says x → ⊥)
 
 -- a decimal number of 64 bits, after a sign if there is one
 abbrev pub Reads : List ℕ → ℤ → Type 0
@@ -54,8 +47,7 @@ pub record ColumnIs (bs name : List ℕ) (r : WholeRange) : Type 0 where
 
 -- a column was read, or the word is none
 abbrev pub ColumnRead : {E : Type 0} → List ℕ → Result (Bor (List ℕ) × WholeRange) E → Type 0
-ColumnRead bs (Ok x) = ColumnIs bs x.0.now x.1
-ColumnRead bs (Err e) = (name : List ℕ) (r : WholeRange) → ColumnIs bs name r → ⊥
+ColumnRead bs r = MatchResult r (λ x. ColumnIs bs x.0.now x.1) (λ _. (name : List ℕ) (b : WholeRange) → ColumnIs bs name b → ⊥)
 
 abbrev pub symbol_of : Comparison → List ℕ
 symbol_of Gt = codes ">"
@@ -92,29 +84,25 @@ pub record FilterSays (bs : List ℕ) (f : Filter) : Type 0 where
 abbrev pub Other : List ℕ → List ℕ → Type 0
 Other name w = (n : List ℕ) × (r : WholeRange) × ColumnIs w n r × (n ≢ name)
 
-abbrev pub Each : (List ℕ → Type 0) → List (List ℕ) → Type 0
-Each p [] = Unit {0}
-Each p (w ∷ ws) = p w × Each p ws
-
 -- the words are columns, at most one of them of this name; its bounds, if there is one
 abbrev pub Gives : List ℕ → List (List ℕ) → Option WholeRange → Type 0
 Gives name [] o = o ≡ None
-Gives name (w ∷ ws) o = (Other name w × Gives name ws o) ⊎ ((r : WholeRange) × (o ≡ Some r) × ColumnIs w name r × Each (Other name) ws)
+Gives name (w ∷ ws) o = (Other name w × Gives name ws o) ⊎ ((r : WholeRange) × (o ≡ Some r) × ColumnIs w name r × All (Other name) ws)
 
 -- the bounds that the words of bs give the column were read, if they give some; or the words are not such columns
 abbrev pub BoundsRead : {E : Type 0} → List ℕ → List ℕ → Result (Option WholeRange) E → Type 0
-BoundsRead bs column (Ok o) = (ws : List (List ℕ)) × Words bs ws × Gives column ws o
-BoundsRead bs column (Err e) = (ws : List (List ℕ)) (o : Option WholeRange) → Words bs ws → Gives column ws o → ⊥
+BoundsRead bs column = Said (λ o. (ws : List (List ℕ)) × Words bs ws × Gives column ws o)
 
--- a line of a segment: its name, then columns; the bounds of one that it lacks are open
+-- a line of a segment: its name, then columns, which give the bounds of one of them or lack it
 pub record SegmentSays (bs column : List ℕ) (s : Segment) : Type 0 where
   pub columns : List (List ℕ)
   pub words : Words bs (s.name.now ∷ columns)
   pub plain : LacksByte 61 s.name.now
-  pub given : Option WholeRange
-  pub gives : Gives column columns given
-  pub known : s.known ≡ is_some given
-  pub bounds : s.bounds ≡ unwrap_or given (range None None)
+  pub gives : Gives column columns s.given
+
+-- the bounds of a column that the line lacks are open
+abbrev pub bounds_of : Segment → WholeRange
+bounds_of s = unwrap_or s.given (range None None)
 
 -- t is what follows the white space in front of bs
 pub record Begins (bs t : List ℕ) : Type 0 where

@@ -2,10 +2,11 @@
 ghost use Rattle.std.specs.Prelude.{◌≡◌, Some};
 ghost use Rattle.segments.specs.Faults.{sentence_of, fault_text};
 
+use std::error::Error;
 use std::fmt;
 
 // What a segment's line or a filter should have.
-#[derive(Clone, Copy, PartialEq, Eq)]
+#[derive(Clone, Copy, Debug, PartialEq, Eq)]
 pub enum Expected {
     SegmentName,
     Column,
@@ -20,11 +21,23 @@ pub enum Expected {
 }
 
 impl Expected {
-    // What to write.
-    fn sentence(self) -> &'static str
-        ensures { result.now ≡ sentence_of self }
+    // The fault of a text that should have had this.
+    pub fn in_text(self, text: &str) -> Fault<'_>
+        ensures expected { result.expected ≡ self }
+        ensures text { result.text.now ≡ text.now }
     {
-        match self {
+        Fault {
+            expected: self,
+            text,
+        }
+    }
+}
+
+impl fmt::Display for Expected {
+    ghost output = { λ e. Some (sentence_of e) };
+
+    fn fmt<W: fmt::Write>(&self, f: &mut fmt::Formatter<W>) -> fmt::Result {
+        f.write_str(match self {
             Expected::SegmentName => "a segment's name, with no `=`, before its columns",
             Expected::Column => "a column NAME=LOW..HIGH",
             Expected::ColumnName => "a column's name, with no `=`",
@@ -35,23 +48,24 @@ impl Expected {
             Expected::Filter => "a filter COLUMN OPERATOR NUMBER, with blanks between",
             Expected::Operator => "an operator, one of > >= < <= =",
             Expected::Number => "a whole number of 64 bits",
-        }
+        })
     }
 }
 
 // What was expected, and in which part of the text.
-#[derive(Clone, Copy)]
+#[derive(Clone, Copy, Debug, PartialEq, Eq)]
 pub struct Fault<'a> {
     pub expected: Expected,
     pub text: &'a str,
 }
 
-impl<'a> fmt::Display for Fault<'a> {
-    ghost output = { λ x. Some (fault_text x.expected x.text.now) };
+impl fmt::Display for Fault<'_> {
+    ghost output = { λ fault. Some (fault_text fault.expected fault.text.now) };
 
     fn fmt<W: fmt::Write>(&self, f: &mut fmt::Formatter<W>) -> fmt::Result {
-        let sentence = self.expected.sentence();
-        let text = self.text;
-        write!(f, "expected {sentence}, in `{text}`")
+        let Fault { expected, text } = self;
+        write!(f, "expected {expected}, in `{text}`")
     }
 }
+
+impl Error for Fault<'_> {}

@@ -1,6 +1,6 @@
 // A filter: one comparison of a column with a number, as `cpu > 90`.
-ghost use Rattle.std.specs.Prelude.{[], ◌∷◌, MatchOption};
-ghost use Rattle.segments.specs.Texts.{Parsed, Said, Symbol, Reads, Words, FilterSays};
+ghost use Rattle.std.specs.Prelude.{◌≡◌, ℕ, List, [], ◌∷◌, MatchOption, IfErr};
+ghost use Rattle.segments.specs.Texts.{Said, Symbol, Reads, Words, FilterSays};
 ghost use Rattle.segments.specs.declared.fault.Expected.TheVariants.{Operator, Number};
 
 use crate::fault::{Expected, Fault};
@@ -15,8 +15,9 @@ pub struct Filter<'a> {
 }
 
 // The comparison of an operator.
-fn parse_operator(text: &str) -> Result<Comparison, Expected>
-    ensures { Parsed (Symbol text.now) Operator result }
+fn parse_operator(text: &str) -> Result<Comparison, Fault<'_>>
+    ensures said { Said (Symbol text.now) result }
+    ensures expected { IfErr result (λ fault. fault.expected ≡ Operator) }
 {
     match text {
         ">" => Ok(Comparison::Gt),
@@ -24,64 +25,45 @@ fn parse_operator(text: &str) -> Result<Comparison, Expected>
         "<" => Ok(Comparison::Lt),
         "<=" => Ok(Comparison::LtEq),
         "=" => Ok(Comparison::Eq),
-        _ => Err(Expected::Operator),
+        _ => Err(Expected::Operator.in_text(text)),
     }
 }
 
 // A whole number of 64 bits.
-fn parse_number(text: &str) -> Result<i64, Expected>
-    ensures { Parsed (Reads text.now) Number result }
+fn parse_number(text: &str) -> Result<i64, Fault<'_>>
+    ensures said { Said (Reads text.now) result }
+    ensures expected { IfErr result (λ fault. fault.expected ≡ Number) }
 {
-    match text.parse::<i64>() {
-        Ok(n) => Ok(n),
-        Err(_) => Err(Expected::Number),
-    }
+    text.parse().map_err(|_| Expected::Number.in_text(text))
 }
 
-// The three words of a text that has no more.
+// The words of a text of three.
 fn three_words(text: &str) -> Option<(&str, &str, &str)>
-    ensures { MatchOption result ((f : Filter) → FilterSays text.now f → ⊥) (λ x. Words text.now (x.0.now ∷ x.1.now ∷ x.2.now ∷ [])) }
+    ensures { MatchOption result ((a b c : List ℕ) → Words text.now (a ∷ b ∷ c ∷ []) → ⊥) (λ x. Words text.now (x.0.now ∷ x.1.now ∷ x.2.now ∷ [])) }
 {
     let mut words = text.split_whitespace();
-    let a = words.next()?;
-    let b = words.next()?;
-    let c = words.next()?;
-    match words.next() {
-        Some(_) => None,
-        None => Some((a, b, c)),
+    match (words.next(), words.next(), words.next(), words.next()) {
+        (Some(a), Some(b), Some(c), None) => Some((a, b, c)),
+        _ => None,
     }
 }
 
-// The filter of a text's three words.
-fn filter_of<'a>(
-    text: &'a str,
-    column: &'a str,
-    operator: &'a str,
-    number: &'a str,
-) -> Result<Filter<'a>, Fault<'a>>
-    requires { Words text.now (column.now ∷ operator.now ∷ number.now ∷ []) }
-    ensures { Said (FilterSays text.now) result }
-{
-    if column.contains('=') {
-        return Err(Fault {
-            expected: Expected::ColumnName,
-            text: column,
-        });
-    }
-    match (parse_operator(operator), parse_number(number)) {
-        (Ok(comparison), Ok(value)) => Ok(Filter {
+// The filter COLUMN OPERATOR NUMBER.
+impl<'a> TryFrom<&'a str> for Filter<'a> {
+    type Error = Fault<'a>;
+
+    ghost try_from_gives = { λ text r. Said (FilterSays text.now) r };
+
+    fn try_from(text: &'a str) -> Result<Filter<'a>, Fault<'a>> {
+        let (column, operator, number) = three_words(text).ok_or(Expected::Filter.in_text(text))?;
+        if column.contains('=') {
+            return Err(Expected::ColumnName.in_text(column));
+        }
+        Ok(Filter {
             column,
-            comparison,
-            value,
-        }),
-        (Err(expected), _) => Err(Fault {
-            expected,
-            text: operator,
-        }),
-        (_, Err(expected)) => Err(Fault {
-            expected,
-            text: number,
-        }),
+            comparison: parse_operator(operator)?,
+            value: parse_number(number)?,
+        })
     }
 }
 
@@ -89,11 +71,5 @@ fn filter_of<'a>(
 pub fn parse_filter(text: &str) -> Result<Filter<'_>, Fault<'_>>
     ensures { Said (FilterSays text.now) result }
 {
-    match three_words(text) {
-        Some((column, operator, number)) => filter_of(text, column, operator, number),
-        None => Err(Fault {
-            expected: Expected::Filter,
-            text,
-        }),
-    }
+    Filter::try_from(text)
 }

@@ -1,32 +1,27 @@
-use Rattle.std.proofs.Common.{Some, None, codes}
+use Rattle.std.proofs.Common.{◌≡◌, ◌++◌, codes}
+use Rattle.std.proofs.lemmas.Result.{MatchResult-from_err}
 use Rattle.std.proofs.lemmas.Str.Pattern.{split_text_parts}
-use Rattle.std.proofs.lemmas.Result.{err_from_is_err_and}
-use Rattle.segments.proofs.Reading.{bounds_made, no_lower, no_upper, no_crossed}
+use Rattle.segments.proofs.Reading.{said_mapped, ends_of, try_new_says}
 use Rattle.segments.proofs.segment.parse_bounds.Goals as goal
+use Rattle.segments.proofs.segment.parse_bounds.Goals.{In_ok-low}
 
-pub returns-in-Ok : goal.returns-in-Ok
-returns-in-Ok c =
-    let cut = split_text_parts (codes "..") c.args.text.now (Some (c.in-Some.low, c.in-Some.high)) c.in-Some.ensures.cases in
-    bounds_made c.args.text.now c.in-Some.low.now c.in-Some.high.now c.in_ok-low.low c.in_ok-high.high c.in-Ok.bounds c.try_new.result
-    cut c.in_ok-low.ensures c.in_ok-high.ensures c.in-Ok.is c.try_new.ensures.value
-
-pub returns-in_default : goal.returns-in_default
-returns-in_default c = λ r b. split_text_parts (codes "..") c.args.text.now None c.in_default.ensures.cases b.front b.back b.cut
+cut_of : (c : In_ok-low) → c.args.text.now ≡ c.in_ok-low.low.now ++ (codes ".." ++ c.in_ok-low.high.now)
+cut_of c = rw c.in_ok-low.ensures.ok_part at (split_text_parts (codes "..") c.args.text.now c.split_once.result c.split_once.ensures.cases)
 
 pub returns-in_err-low : goal.returns-in_err-low
 returns-in_err-low c =
-    let cut = split_text_parts (codes "..") c.args.text.now (Some (c.in-Some.low, c.in-Some.high)) c.in-Some.ensures.cases in
-    let p = err_from_is_err_and c.from_residual.result c.from_residual.ensures.1 in
-    rw p.1 (no_lower c.in-Some.low.now c.in-Some.high.now cut c.in_err-low.ensures.1)
+    let none = rw c.in_err-low.ensures.ok_part at (split_text_parts (codes "..") c.args.text.now c.split_once.result c.split_once.ensures.cases) in
+    MatchResult-from_err _ _ _ c.from_residual.ensures.0 (λ _ r b. none b.front b.back b.cut)
 
-pub returns-in_err-high : goal.returns-in_err-high
-returns-in_err-high c =
-    let cut = split_text_parts (codes "..") c.args.text.now (Some (c.in-Some.low, c.in-Some.high)) c.in-Some.ensures.cases in
-    let p = err_from_is_err_and c.from_residual-in_err-high.result c.from_residual-in_err-high.ensures.1 in
-    rw p.1 (no_upper c.in-Some.low.now c.in-Some.high.now cut c.in_err-high.ensures.1)
+pub returns-in_err-parse_end : goal.returns-in_err-parse_end
+returns-in_err-parse_end c = MatchResult-from_err _ _ _ c.from_residual-in_err-parse_end.ensures.0 (λ _ r b.
+    c.in_err-parse_end.ensures.said r.low (ends_of c.in_ok-low.low.now c.in_ok-low.high.now (cut_of (goal.at.returns-in_err-parse_end c).In_ok-low) b).0)
 
-pub returns-in-Err : goal.returns-in-Err
-returns-in-Err c =
-    let cut = split_text_parts (codes "..") c.args.text.now (Some (c.in-Some.low, c.in-Some.high)) c.in-Some.ensures.cases in
-    no_crossed c.in-Some.low.now c.in-Some.high.now cut c.in_ok-low.low c.in_ok-high.high _ c.try_new.result
-    c.in_ok-low.ensures c.in_ok-high.ensures c.in-Err.is c.try_new.ensures.value
+pub returns-in_err-parse_end-2 : goal.returns-in_err-parse_end-2
+returns-in_err-parse_end-2 c = MatchResult-from_err _ _ _ c.from_residual-in_err-parse_end-2.ensures.0 (λ _ r b.
+    c.in_err-parse_end-2.ensures.said r.high (ends_of c.in_ok-low.low.now c.in_ok-low.high.now (cut_of (goal.at.returns-in_err-parse_end-2 c).In_ok-low) b).1)
+
+pub returns : goal.returns
+returns c =
+    let says = try_new_says c.in_ok-low.low.now c.in_ok-low.high.now (cut_of (goal.at.returns c).In_ok-low) c.in_ok-parse_end.field-0 c.in_ok-parse_end-2.field-0 c.in_ok-parse_end.ensures.said c.in_ok-parse_end-2.ensures.said in
+    said_mapped _ _ c.try_new.result c.map_err.result c.map_err.ensures.cases c.map_err.ensures.variant (rw c.try_new.ensures.value says)
