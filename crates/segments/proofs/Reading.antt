@@ -11,10 +11,14 @@ use Rattle.std.specs.declared.str.SplitWhitespace.{SplitWhitespace}
 use Rattle.std.specs.Str.Iter.{split_whitespace_rest, split_whitespace_steps}
 use Rattle.std.proofs.lemmas.List.Elements.{All-nil, All-push}
 use Rattle.std.proofs.lemmas.Bool.{false≢true}
-use Rattle.interval_arithmetic.specs.Ends.{fair}
+use Rattle.std.specs.Option.{ok_or}
+use Rattle.answers.specs.declared.refusal.Ground.TheVariants.{CrossedEnds}
+use Rattle.answers.specs.Refusals.{refusal}
+use Rattle.interval_arithmetic.specs.Ends.{fair, try_new_of}
 use Rattle.interval_arithmetic.proofs.Meets.{fair_from}
 use Rattle.kinds.specs.declared.whole.WholeRange.{WholeRange}
-use Rattle.kinds.specs.Whole.{inside, range, or_refused, try_new_of}
+use Rattle.kinds.specs.declared.whole.WholeSort.TheVariants.{Whole}
+use Rattle.kinds.specs.Whole.{inside, range, whole_order}
 use Rattle.segments.specs.Texts.{Said, EndIs, BoundsAre, ColumnIs, First, Words, Other, Gives, SegmentSays, symbol_of, FilterSays}
 use Rattle.segments.specs.declared.filter.Filter.{Filter}
 use Rattle.segments.specs.declared.segment.Segment.{Segment}
@@ -31,10 +35,10 @@ module _ {bs : List ℕ} (xs ys : List ℕ) (cut : bs ≡ xs ++ (46 ∷ 46 ∷ y
   pub ends_of : {r : WholeRange} → BoundsAre bs r → EndIs xs r.low × EndIs ys r.high
   ends_of b = grind (arith, bounds_cut b cut, b.lower, b.upper)
 
-  pub try_new_says : (l u : Option ℤ) → EndIs xs l → EndIs ys u → Said (BoundsAre bs) (try_new_of l u)
+  pub try_new_says : (l u : Option ℤ) → EndIs xs l → EndIs ys u → Said (BoundsAre bs) (try_new_of whole_order Whole l u)
   try_new_says l u low high = by (fair inside le_z l u) refl
     where
-      by : (t : Bool) → fair inside le_z l u ≡ t → Said (BoundsAre bs) (or_refused (cond t (Some (range l u)) None))
+      by : (t : Bool) → fair inside le_z l u ≡ t → Said (BoundsAre bs) (ok_or (cond t (Some (range l u)) None) (refusal CrossedEnds 0))
       by true f = record { front = xs; back = ys; cut = cut; lower = low; upper = high; fair = grind (arith, f) }
       by false f = λ r b.
           grind (arith, end_same xs r.low l (ends_of b).0 low, end_same ys r.high u (ends_of b).1 high, fair_from inside le_z l u (end_fits xs l low) (end_fits ys u high), b.fair, f)
