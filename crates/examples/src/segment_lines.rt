@@ -2,7 +2,7 @@
 use decisions::{Decision, Tally, decide};
 use interval_arithmetic::compare::Comparison;
 use kinds::whole::WholeRange;
-use segments::fault::{Expected, Fault};
+use segments::fault::Expected;
 use segments::filter::parse_filter;
 use segments::segment::parse_segment;
 use std::test::Fail;
@@ -39,7 +39,10 @@ fn decisions(rt: HostRuntime) {
 // Whether the line has these bounds for the column.
 fn bounds(line: &str, column: &str, low: Option<i64>, high: Option<i64>) -> bool {
     match parse_segment(line, column) {
-        Ok(Some(s)) => s.bounds.low == low && s.bounds.high == high,
+        Ok(Some(segment)) => {
+            let bounds = segment.bounds();
+            bounds.low == low && bounds.high == high
+        }
         _ => false,
     }
 }
@@ -109,12 +112,7 @@ fn filters(rt: HostRuntime) {
 
 #[test]
 fn summary(rt: HostRuntime) -> Result<(), Fail> {
-    let none = Tally {
-        skipped: 0,
-        to_read: 0,
-        whole: 0,
-    };
-    let tally = none
+    let tally = Tally::default()
         .counting(Decision::Skip)
         .counting(Decision::Read)
         .counting(Decision::Skip);
@@ -128,10 +126,7 @@ fn summary(rt: HostRuntime) -> Result<(), Fail> {
 
 #[test]
 fn fault_text(rt: HostRuntime) -> Result<(), Fail> {
-    let fault = Fault {
-        expected: Expected::Bounds,
-        text: "cpu=12-97",
-    };
+    let fault = Expected::Bounds.in_text("cpu=12-97");
     let text = format!(in rt.alloc(); "{fault}")?;
     let said = "expected bounds LOW..HIGH, an end being a whole number or *, in `cpu=12-97`";
     assert_eq!(rt; text.as_str(), said);

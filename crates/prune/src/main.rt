@@ -2,34 +2,35 @@
 #![tactic(auto)]
 
 use decisions::{Tally, decide};
-use segments::filter::{Filter, parse_filter};
+use segments::fault::Fault;
+use segments::filter::Filter;
 use segments::segment::parse_segment;
 use std::fs::File;
 use std::io::{BufRead, BufReader, ErrorKind, Read};
 use std::process::ExitCode;
-use std::{env, io};
+use std::{env, fmt, io};
+use thiserror::Error;
 
-// Why the program ends with status 1.
-#[derive(Drop)]
-enum Failed {
-    // What is wrong has been told on standard error.
-    Told,
-    // The arguments cannot be read, or the output cannot be written.
-    Io(io::Error),
-}
-
-impl From<io::Error> for Failed {
-    fn from(e: io::Error) -> Failed {
-        Failed::Io(e)
-    }
-}
-
-// The decisions so far, whether a segment has the filter's column, and how many lines were bad.
-#[derive(Clone, Copy)]
-struct Report {
-    tally: Tally,
-    known: bool,
-    bad: u64,
+// Why the program gives up.
+#[derive(Debug, Drop, Error)]
+enum Failure<'a> {
+    #[error("expected FILTER [FILE]; the filter is one word, as 'cpu > 90'")]
+    Usage,
+    #[error(transparent)]
+    Filter(#[from] Fault<'a>),
+    #[error("cannot open {path}: {error}")]
+    Open {
+        path: &'a str,
+        error: io::Error,
+    },
+    #[error("cannot read line {number} of {name}: {error}")]
+    Read {
+        number: u64,
+        name: &'a str,
+        error: io::Error,
+    },
+    #[error(transparent)]
+    Io(#[from] io::Error),
 }
 
 fn print_help(rt: &impl Print) -> io::Result<()> {
@@ -58,168 +59,138 @@ example: printf 'seg-1 cpu=12..97\\nseg-2 cpu=3..90\\n' | prune 'cpu > 90'"
     )
 }
 
-// Decides a line and prints the decision, or tells what is wrong with it.
-fn decide_line(
-    rt: &HostRuntime,
-    filter: Filter<'_>,
-    number: u64,
-    line: &str,
-    report: Report,
-) -> io::Result<Report> {
-    match parse_segment(line, filter.column) {
-        Ok(None) => Ok(report),
-        Ok(Some(segment)) => {
-            let decision = decide(filter.comparison, segment.bounds, filter.value);
-            let word = decision.word();
-            let name = segment.name;
-            println!(rt; "{word:<5} {name}")?;
-            Ok(Report {
-                tally: report.tally.counting(decision),
-                known: report.known || segment.known,
-                bad: report.bad,
-            })
-        }
-        Err(fault) => {
-            eprintln!(rt; "line {number}: {fault}")?;
-            Ok(Report {
-                bad: report.bad.saturating_add(1),
-                ..report
-            })
+// The decisions so far, whether a segment has the filter's column, and how many lines were bad.
+#[derive(Clone, Copy, Default)]
+struct Report {
+    tally: Tally,
+    known: bool,
+    bad: u64,
+}
+
+impl fmt::Display for Report {
+    fn fmt<W: fmt::Write>(&self, f: &mut fmt::Formatter<W>) -> fmt::Result {
+        let Report { tally, bad, .. } = self;
+        match bad {
+            0 => write!(f, "{tally}"),
+            1 => write!(f, "{tally}; 1 bad line, not decided"),
+            _ => write!(f, "{tally}; {bad} bad lines, not decided"),
         }
     }
 }
 
-// Tells why a line cannot be read; one that is not UTF-8 is a bad line.
-fn tell_unread(
-    rt: &HostRuntime,
-    number: u64,
-    name: &str,
-    e: io::Error,
+// Decides segments by a filter, and keeps the report.
+#[derive(Drop)]
+struct Pruning<'a> {
+    rt: &'a HostRuntime,
+    filter: Filter<'a>,
     report: Report,
-) -> Result<Report, Failed> {
-    if e.kind() == ErrorKind::InvalidData {
-        eprintln!(rt; "line {number}: expected text in UTF-8")?;
-        return Ok(Report {
-            bad: report.bad.saturating_add(1),
-            ..report
-        });
-    }
-    eprintln!(rt; "prune: cannot read line {number} of {name}: {e}")?;
-    Err(Failed::Told)
 }
 
-// Decides each line of the input, which goes by `name` where it cannot be read.
-fn decide_all<R: Read + Drop>(
-    rt: &HostRuntime,
-    filter: Filter<'_>,
-    input: BufReader<R>,
-    name: &str,
-) -> Result<Report, Failed> {
-    let mut report = Report {
-        tally: Tally {
-            skipped: 0,
-            to_read: 0,
-            whole: 0,
-        },
-        known: false,
-        bad: 0,
-    };
-    let mut number = 0u64;
-    for line in input.lines(rt.alloc()) {
-        number = number.saturating_add(1);
-        report = match line {
-            Ok(text) => decide_line(rt, filter, number, text.as_str(), report)?,
-            Err(e) => tell_unread(rt, number, name, e, report)?,
+impl<'a> Pruning<'a> {
+    // Tells what is wrong with a line.
+    fn tell_bad(&mut self, number: u64, fault: impl fmt::Display + Drop) -> io::Result<()> {
+        self.report.bad = self.report.bad.saturating_add(1);
+        eprintln!(self.rt; "line {number}: {fault}")
+    }
+
+    // Decides a line and prints the decision, or tells what is wrong with it.
+    fn decide_line(&mut self, number: u64, line: &str) -> io::Result<()> {
+        let segment = match parse_segment(line, self.filter.column) {
+            Ok(Some(segment)) => segment,
+            Ok(None) => return Ok(()),
+            Err(fault) => return self.tell_bad(number, fault),
         };
+        let decision = decide(self.filter.comparison, segment.bounds(), self.filter.value);
+        self.report.tally = self.report.tally.counting(decision);
+        self.report.known |= segment.given.is_some();
+        println!(self.rt; "{decision:<5} {}", segment.name)
     }
-    Ok(report)
-}
 
-// Says so where no segment has the filter's column: it may be misspelt.
-fn tell_unknown(rt: &HostRuntime, column: &str, report: Report) -> io::Result<()> {
-    if !report.known {
-        eprintln!(rt; "prune: no segment has bounds for the column {column}")?;
-    }
-    Ok(())
-}
-
-// Prints the summary; fails where a line was bad.
-fn summarize(rt: &HostRuntime, filter: Filter<'_>, report: Report) -> Result<(), Failed> {
-    tell_unknown(rt, filter.column, report)?;
-    let tally = report.tally;
-    let bad = report.bad;
-    if bad == 0 {
-        println!(rt; "{tally}")?;
-        return Ok(());
-    }
-    let lines = if bad == 1 { "line" } else { "lines" };
-    println!(rt; "{tally}; {bad} bad {lines}, not decided")?;
-    Err(Failed::Told)
-}
-
-// Says why the file cannot be opened.
-fn cannot_open(rt: &HostRuntime, path: &str, e: io::Error) -> Failed {
-    let _ = eprintln!(rt; "prune: cannot open {path}: {e}");
-    Failed::Told
-}
-
-// Decides the segments of the file, or of standard input for `-`.
-fn prune_by(rt: &HostRuntime, filter: Filter<'_>, path: &str) -> Result<(), Failed> {
-    if path == "-" {
-        let report = decide_all(
-            rt,
-            filter,
-            BufReader::new(rt.alloc(), rt.stdin())?,
-            "standard input",
-        )?;
-        return summarize(rt, filter, report);
-    }
-    match File::open(rt, path) {
-        Ok(file) => {
-            let report = decide_all(rt, filter, BufReader::new(rt.alloc(), file)?, path)?;
-            summarize(rt, filter, report)
+    // Decides each line of the input, which goes by `name` where it cannot be read; one that is not UTF-8 is a bad line.
+    fn decide_all<R: Read + Drop>(&mut self, input: R, name: &'a str) -> Result<(), Failure<'a>> {
+        let alloc = self.rt.alloc();
+        let lines = BufReader::new(alloc, input)?.lines(alloc);
+        for (number, line) in (1u64..).zip(lines) {
+            match line {
+                Ok(line) => self.decide_line(number, line.as_str())?,
+                Err(error) if error.kind() == ErrorKind::InvalidData => {
+                    self.tell_bad(number, "expected text in UTF-8")?
+                }
+                Err(error) => {
+                    return Err(Failure::Read {
+                        number,
+                        name,
+                        error,
+                    });
+                }
+            }
         }
-        Err(e) => Err(cannot_open(rt, path, e)),
+        Ok(())
     }
-}
 
-// Reads the filter, and decides the segments by it.
-fn prune(rt: &HostRuntime, text: &str, path: &str) -> Result<(), Failed> {
-    match parse_filter(text) {
-        Ok(filter) => prune_by(rt, filter, path),
-        Err(fault) => {
-            eprintln!(rt; "prune: {fault}")?;
-            Err(Failed::Told)
+    // Prints the summary; the status is 1 where a line was bad.
+    fn summarize(&self) -> io::Result<ExitCode> {
+        let report = self.report;
+        // A column that no segment has may be misspelt.
+        if !report.known {
+            let column = self.filter.column;
+            eprintln!(self.rt; "prune: no segment has bounds for the column {column}")?;
         }
+        println!(self.rt; "{report}")?;
+        Ok(if report.bad == 0 {
+            ExitCode::SUCCESS
+        } else {
+            ExitCode::FAILURE
+        })
     }
 }
 
-fn run(rt: &HostRuntime) -> Result<(), Failed> {
-    let mut args = env::args(rt)?;
-    let _program = args.next();
-    let Some(filter) = args.next() else {
-        return Ok(print_help(rt)?);
+// Decides the segments of the file, or of standard input for `-`, by the filter.
+fn prune<'a>(rt: &'a HostRuntime, filter: &'a str, path: &'a str) -> Result<ExitCode, Failure<'a>> {
+    let mut pruning = Pruning {
+        rt,
+        filter: Filter::try_from(filter)?,
+        report: Report::default(),
     };
-    if filter.as_str() == "--help" || filter.as_str() == "-h" {
-        return Ok(print_help(rt)?);
+    if path == "-" {
+        pruning.decide_all(rt.stdin(), "standard input")?;
+    } else {
+        let file = File::open(rt, path).map_err(|error| Failure::Open { path, error })?;
+        pruning.decide_all(file, path)?;
     }
-    match (args.next(), args.next()) {
-        (None, _) => prune(rt, filter.as_str(), "-"),
-        (Some(path), None) => prune(rt, filter.as_str(), path.as_str()),
-        _ => {
-            eprintln!(rt; "prune: expected FILTER [FILE]; the filter is one word, as 'cpu > 90'")?;
-            Err(Failed::Told)
-        }
+    Ok(pruning.summarize()?)
+}
+
+// The arguments after the program's name.
+fn arguments(rt: &HostRuntime) -> io::Result<Vec<String>> {
+    Ok(env::args(rt)?.skip(1).collect(rt.alloc())?)
+}
+
+// Does what the arguments ask for.
+fn run<'a>(rt: &'a HostRuntime, args: &'a [String]) -> Result<ExitCode, Failure<'a>> {
+    let wants_help = args
+        .first()
+        .is_none_or(|first| matches!(first.as_str(), "--help" | "-h"));
+    if wants_help {
+        print_help(rt)?;
+        return Ok(ExitCode::SUCCESS);
     }
+    match args {
+        [filter] => prune(rt, filter.as_str(), "-"),
+        [filter, path] => prune(rt, filter.as_str(), path.as_str()),
+        _ => Err(Failure::Usage),
+    }
+}
+
+// Tells why the program gives up.
+fn give_up(rt: &HostRuntime, failure: Failure<'_>) -> ExitCode {
+    let _ = eprintln!(rt; "prune: {failure}");
+    ExitCode::FAILURE
 }
 
 fn main(rt: HostRuntime) -> ExitCode {
-    match run(&rt) {
-        Ok(()) => ExitCode::SUCCESS,
-        Err(Failed::Told) => ExitCode::FAILURE,
-        Err(Failed::Io(e)) => {
-            let _ = eprintln!(rt; "prune: {e}");
-            ExitCode::FAILURE
-        }
+    match arguments(&rt) {
+        Ok(args) => run(&rt, &args).unwrap_or_else(|failure| give_up(&rt, failure)),
+        Err(error) => give_up(&rt, Failure::Io(error)),
     }
 }
