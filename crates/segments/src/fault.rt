@@ -59,8 +59,8 @@ pub struct Fault<'a> {
     pub text: &'a str,
 }
 
-impl fmt::Display for Fault<'_> {
-    ghost output = { λ fault. Some (fault_text fault.expected fault.text.now) };
+impl<'a> fmt::Display for Fault<'a> {
+    ghost output = { λ x. Some (fault_text x.expected x.text.now) };
 
     fn fmt<W: fmt::Write>(&self, f: &mut fmt::Formatter<W>) -> fmt::Result {
         let Fault { expected, text } = self;
