@@ -22,13 +22,23 @@ pub fn stamps(low: i64, high: i64) -> TimeRange {
     }
 }
 
-// Whether the two ranges are equal, so that each contains the other.
-pub fn is_same<K: Ranges>(a: K, b: K) -> bool {
-    contains(a, b) == Truth::True && contains(b, a) == Truth::True
+// Whether the two ranges are equal: of one sort, with the same ends, so that each contains the other.
+pub fn is_same<K: Ranges>(a: K, b: K) -> bool
+where
+    K::Value: PartialEq,
+{
+    a.sort() == b.sort()
+        && a.lower() == b.lower()
+        && a.upper() == b.upper()
+        && contains(a, b) == Truth::True
+        && contains(b, a) == Truth::True
 }
 
 // Whether these two ranges are what is left.
-pub fn leaves<K: Ranges>(pair: Option<(K, K)>, left: K, right: K) -> bool {
+pub fn leaves<K: Ranges>(pair: Option<(K, K)>, left: K, right: K) -> bool
+where
+    K::Value: PartialEq,
+{
     pair.is_some_and(|(l, r)| is_same(l, left) && is_same(r, right))
 }
 

@@ -55,7 +55,7 @@ fn questions_go_to_the_kind_they_are_about(rt: HostRuntime) {
 fn nothing_goes_across_kinds(rt: HostRuntime) {
     assert!(rt; intersect(first(0, 9), third(0, 9)).is_none());
     assert!(rt; Three::backward(Arithmetic::Plus, third(0, 9), first(0, 9), third(0, 9)).is_none());
-    assert!(rt; first(0, 9).sort() != third(0, 9).sort());
+    assert!(rt; !Three::same_sort(first(0, 9).sort(), third(0, 9).sort()));
     assert!(rt; Three::fits(Arithmetic::Minus, stamps(0, 9).sort(), first(0, 9).sort()).is_none());
     assert_eq!(rt;
         compare(Comparison::Lt, first(0, 9), stamps(10, 20)),

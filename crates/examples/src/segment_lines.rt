@@ -60,10 +60,7 @@ fn lines(rt: HostRuntime) {
 
 // Whether the line is refused for want of this.
 fn refused(line: &str, wanted: Expected) -> bool {
-    match parse_segment(line, "cpu") {
-        Ok(_) => false,
-        Err(fault) => fault.expected == wanted,
-    }
+    parse_segment(line, "cpu").is_err_and(|fault| fault.expected == wanted)
 }
 
 #[test]

@@ -13,9 +13,6 @@ use Rattle.interval_arithmetic.specs.Laws.{OrderLaws}
 use Rattle.interval_arithmetic.specs.Ranges.{Value, boolean, number, Holds, SameRange, range_meet, range_contains}
 use Rattle.interval_arithmetic.proofs.Meets.{contains_rule}
 
-true_false : True ≡ False → ⊥
-true_false e = let z : ◌≡◌ {A = ℕ} 0 1 = cc in omega arith
-
 true_unsure : True ≡ Unsure → ⊥
 true_unsure e = let z : ◌≡◌ {A = ℕ} 0 1 = cc in omega arith
 

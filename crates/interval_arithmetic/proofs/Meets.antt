@@ -145,27 +145,29 @@ module _ {V R S : Type 0} {o : Order V R S} (laws : OrderLaws o) where
 
   -- ---- whether one range contains another
 
-  end_same : (e f : Option V) → same_end o e f ≡ true → e ≡ f
-  end_same None None h = refl
-  end_same None (Some b) h = absurd (false≢true h)
-  end_same (Some a) None h = absurd (false≢true h)
-  end_same (Some a) (Some b) h = ap Some (laws.equal_is a b h)
+  end_same : (s : S) (e f : Option V) → end_is (o.is s) e ≡ true → end_is (o.is s) f ≡ true → same_end o e f ≡ true → e ≡ f
+  end_same s None None p q h = refl
+  end_same s None (Some b) p q h = absurd (false≢true h)
+  end_same s (Some a) None p q h = absurd (false≢true h)
+  end_same s (Some a) (Some b) p q h = let k = and_parts (o.leq a b) (o.leq b a) h in ap Some (laws.antisymmetric s a b p q k.0 k.1)
 
-  same_end_self : (e : Option V) → same_end o e e ≡ true
-  same_end_self None = refl
-  same_end_self (Some a) = laws.equal_self a
+  same_end_self : (s : S) (e : Option V) → end_is (o.is s) e ≡ true → same_end o e e ≡ true
+  same_end_self s None p = refl
+  same_end_self s (Some a) p = let k = laws.reflexive s a p in and_from (o.leq a a) (o.leq a a) k k
 
   -- ranges of one sort with the same ends
   same_from : (c b : R) → o.sort c ≡ o.sort b → same_ends o c b ≡ true → Same o c b
   same_from c b e h =
       let k = and_parts (same_end o (o.lower c) (o.lower b)) (same_end o (o.upper c) (o.upper b)) h in
-      record { sorts = e; lowers = end_same (o.lower c) (o.lower b) k.0; uppers = end_same (o.upper c) (o.upper b) k.1 }
+      let lb : end_is (o.is (o.sort c)) (o.lower b) ≡ true = subst (λ t. end_is (o.is t) (o.lower b) ≡ true) (sym e) (lower_is b) in
+      let ub : end_is (o.is (o.sort c)) (o.upper b) ≡ true = subst (λ t. end_is (o.is t) (o.upper b) ≡ true) (sym e) (upper_is b) in
+      record { sorts = e; lowers = end_same (o.sort c) (o.lower c) (o.lower b) (lower_is c) lb k.0; uppers = end_same (o.sort c) (o.upper c) (o.upper b) (upper_is c) ub k.1 }
 
   same_ends_from : (c b : R) → Same o c b → same_ends o c b ≡ true
   same_ends_from c b e =
       and_from (same_end o (o.lower c) (o.lower b)) (same_end o (o.upper c) (o.upper b))
-      (subst (λ x. same_end o (o.lower c) x ≡ true) e.lowers (same_end_self (o.lower c)))
-      (subst (λ x. same_end o (o.upper c) x ≡ true) e.uppers (same_end_self (o.upper c)))
+      (subst (λ x. same_end o (o.lower c) x ≡ true) e.lowers (same_end_self (o.sort c) (o.lower c) (lower_is c)))
+      (subst (λ x. same_end o (o.upper c) x ≡ true) e.uppers (same_end_self (o.sort c) (o.upper c) (upper_is c)))
 
   pub same_within : (c b : R) → Same o c b → (v : V) → Within o b v → Within o c v
   same_within c b e v w = record {

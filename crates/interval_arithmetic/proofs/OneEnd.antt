@@ -1,9 +1,9 @@
 -- What holds of lower ends and, with the order turned round, of upper ones. Assumes nothing.
-use Rattle.std.proofs.Common.{◌≡◌, Bool, true, false, cond, Some, None, Option, sym, refl, ap, subst}
+use Rattle.std.proofs.Common.{◌≡◌, Bool, true, false, cond, IfSome, Some, None, Option, sym, refl, ap, subst}
 use Rattle.std.specs.Option.{option_map}
 use Rattle.std.proofs.lemmas.Bool.{both_ways, false_from_ne_true}
 use Rattle.std.proofs.lemmas.Option.{none-some, same_Some}
-use Rattle.interval_arithmetic.specs.Ends.{OpenOr, end_is, uncrossed, tighter}
+use Rattle.interval_arithmetic.specs.Ends.{end_is, uncrossed, tighter}
 use Rattle.interval_arithmetic.specs.Laws.{NextBy}
 use Rattle.interval_arithmetic.specs.Greater.{stepped, moved}
 
@@ -23,7 +23,7 @@ turned laws = record {
 
 -- v is at the end or past it
 abbrev pub Past : {V : Type 0} → (V → V → Bool) → Option V → V → Type 0
-Past leq e v = OpenOr (λ a. leq a v ≡ true) e
+Past leq e v = IfSome e (λ a. leq a v ≡ true)
 
 -- x is past y, or at it if the comparison is not strict
 abbrev pub Over : {V : Type 0} → (V → V → Bool) → Bool → V → V → Type 0

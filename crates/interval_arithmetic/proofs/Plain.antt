@@ -1,8 +1,8 @@
 -- How the ends that a plain struct keeps are read. Assumes nothing.
-use Rattle.std.proofs.Common.{◌≡◌, Bool, true, false, cond, Some, None, Option, refl, ap, ◌∙◌}
+use Rattle.std.proofs.Common.{◌≡◌, Bool, true, false, cond, IfSome, Some, None, Option, refl, ap, ◌∙◌}
 use Rattle.std.specs.Option.{option_map}
 use Rattle.std.proofs.lemmas.Option.{cond_some}
-use Rattle.interval_arithmetic.specs.Ends.{OpenOr, end_is, uncrossed, fair, fit, kept, low_end, high_end}
+use Rattle.interval_arithmetic.specs.Ends.{end_is, uncrossed, fair, fit, kept, low_end, high_end}
 use Rattle.interval_arithmetic.proofs.Meets.{fair_parts, fair_from}
 
 module _ {V : Type 0} (p : V → Bool) where
@@ -59,14 +59,14 @@ module _ {V : Type 0} (p : V → Bool) where
         (ap (λ x. low_end leq x (kept p u)) kl ∙ ap (λ x. low_end leq l x) ku ∙ e.0, ap (λ x. high_end leq x (kept p u)) kl ∙ ap (λ x. high_end leq l x) ku ∙ e.1)
 
 -- an end that is open, or of which p holds, through a map
-pub open_map : {A B : Type 0} (f : A → B) (p : B → Type 0) (e : Option A) → OpenOr (λ a. p (f a)) e → OpenOr p (option_map f e)
+pub open_map : {A B : Type 0} (f : A → B) (p : B → Type 0) (e : Option A) → IfSome e (λ a. p (f a)) → IfSome (option_map f e) p
 open_map f p None h = tt
 open_map f p (Some a) h = h
 
-pub open_unmap : {A B : Type 0} (f : A → B) (p : B → Type 0) (e : Option A) → OpenOr p (option_map f e) → OpenOr (λ a. p (f a)) e
+pub open_unmap : {A B : Type 0} (f : A → B) (p : B → Type 0) (e : Option A) → IfSome (option_map f e) p → IfSome e (λ a. p (f a))
 open_unmap f p None h = tt
 open_unmap f p (Some a) h = h
 
 -- a value that may not fit is open, or of it p holds
-pub open_fit : {V : Type 0} (q : V → Bool) (p : V → Type 0) (z : V) → p z → OpenOr p (fit q z)
-open_fit q p z h = elim (q z) as (λ t. OpenOr p (cond t (Some z) None)) [ true ↦ h | false ↦ tt ]
+pub open_fit : {V : Type 0} (q : V → Bool) (p : V → Type 0) (z : V) → p z → IfSome (fit q z) p
+open_fit q p z h = elim (q z) as (λ t. IfSome (cond t (Some z) None) p) [ true ↦ h | false ↦ tt ]

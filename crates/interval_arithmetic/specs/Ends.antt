@@ -1,5 +1,5 @@
 -- What lies in a range, what a range is made of, what two share, and whether one contains the other. Assumes nothing.
-use Rattle.std.specs.Prelude.{◌≡◌, Bool, true, false, cond, ◌&&◌, Some, None, Ok, Err, Option, Result}
+use Rattle.std.specs.Prelude.{◌≡◌, Bool, true, false, cond, ◌&&◌, IfSome, Some, None, Ok, Err, Option, Result}
 use Rattle.std.specs.Option.{ok_or}
 use Rattle.answers.specs.declared.refusal.Refusal.{Refusal}
 use Rattle.answers.specs.declared.refusal.Ground.TheVariants.{CrossedEnds}
@@ -42,11 +42,6 @@ high_end leq l None = None
 high_end leq None (Some b) = Some b
 high_end leq (Some a) (Some b) = Some (cond (leq a b) b a)
 
--- an open end, or a value of which p holds
-abbrev pub OpenOr : {V : Type 0} → (V → Type 0) → Option V → Type 0
-OpenOr p None = Unit {0}
-OpenOr p (Some v) = p v
-
 -- of two ends the second where the first reaches it, else the first; a value before an open one
 abbrev pub tighter : {V : Type 0} → (V → V → Bool) → Option V → Option V → Option V
 tighter reaches None b = b
@@ -62,10 +57,10 @@ Tighter reach (Some a) (Some b) r = (t : Bool) × reach a b t × (r ≡ Some (co
 module _ {V R S : Type 0} (o : Order V R S) where
   -- at or above a lower end; an open one is below every value
   abbrev pub Above : Option V → V → Type 0
-  Above e v = OpenOr (λ a. o.leq a v ≡ true) e
+  Above e v = IfSome e (λ a. o.leq a v ≡ true)
 
   abbrev pub Below : Option V → V → Type 0
-  Below e v = OpenOr (λ b. o.leq v b ≡ true) e
+  Below e v = IfSome e (λ b. o.leq v b ≡ true)
 
   -- the range holds the value: it is of the range's sort and between the ends
   pub record Within (r : R) (v : V) : Type 0 where
@@ -118,7 +113,7 @@ module _ {V R S : Type 0} (o : Order V R S) where
   same_end None None = true
   same_end None (Some b) = false
   same_end (Some a) None = false
-  same_end (Some a) (Some b) = o.equal a b
+  same_end (Some a) (Some b) = o.leq a b && o.leq b a
 
   abbrev pub same_ends : R → R → Bool
   same_ends a b = same_end (o.lower a) (o.lower b) && same_end (o.upper a) (o.upper b)

@@ -23,9 +23,6 @@ module _ {V R S : Type 0} (o : Order V R S) where
     -- the test of sorts is equality
     pub same_is : (s t : S) → o.same s t ≡ true → s ≡ t
     pub same_self : (s : S) → o.same s s ≡ true
-    -- the test of values is equality
-    pub equal_is : (a b : V) → o.equal a b ≡ true → a ≡ b
-    pub equal_self : (a : V) → o.equal a a ≡ true
     -- a value is of one sort
     pub sorted : (s : S) (v : V) → o.is s v ≡ true → o.sort_of v ≡ s
     -- the values of a sort are in a total order

@@ -8,7 +8,6 @@ pub record Order (Value Range Sort : Type 0) : Type 0 where
   pub is : Sort → Value → Bool
   pub sort_of : Value → Sort
   pub same : Sort → Sort → Bool
-  pub equal : Value → Value → Bool
   pub leq : Value → Value → Bool
   pub sort : Range → Sort
   pub lower : Range → Option Value

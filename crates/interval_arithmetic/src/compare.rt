@@ -74,6 +74,7 @@ fn compare_ends<K: Ranges>(comparison: Comparison, left: K, right: K) -> Truth
 
 // TRUE where the comparison holds for every two values that the ends allow, FALSE where for none, else
 // UNSURE; an open end lies beyond every value. UNSURE too where the sorts differ.
+#[tactic(auto, using(crate::proofs::Comparisons::compared))]
 pub fn compare<K: Ranges>(comparison: Comparison, left: K, right: K) -> Truth
     ensures value { result ≡ compare_of K.Ranges.order comparison left right }
     ensures holds { Compared K.Ranges.order comparison left right result }

@@ -1,6 +1,6 @@
 // What a range of a kind is made of, what two ranges share, and whether one contains the other.
 ghost use Rattle.std.specs.Prelude.{◌≡◌};
-ghost use Rattle.interval_arithmetic.specs.Ends.{Within, Same, try_new_of, Spans, Tighter, meet, contains_of};
+ghost use Rattle.interval_arithmetic.specs.Ends.{Within, Same, try_new_of, Spans, Tighter, meet, same_end, same_ends, contains_of};
 ghost use Rattle.answers.specs.Refusals.{Refuses};
 ghost use Rattle.answers.specs.Sharing.{Shares, SharesSort, Contains};
 
@@ -48,6 +48,23 @@ pub fn intersect<K: Ranges>(a: K, b: K) -> Option<K>
     K::make(a.sort(), low, high)
 }
 
+// Whether both ends are open, or each is at or below the other.
+fn is_same_end<K: Ranges>(a: Option<K::Value>, b: Option<K::Value>) -> bool
+    ensures { result ≡ same_end K.Ranges.order a b }
+{
+    match (a, b) {
+        (None, None) => true,
+        (Some(a), Some(b)) => K::at_most(a, b) && K::at_most(b, a),
+        _ => false,
+    }
+}
+
+fn has_same_ends<K: Ranges>(a: K, b: K) -> bool
+    ensures { result ≡ same_ends K.Ranges.order a b }
+{
+    is_same_end::<K>(a.lower(), b.lower()) && is_same_end::<K>(a.upper(), b.upper())
+}
+
 // TRUE where what the two share is `b`, FALSE where they share nothing, else UNSURE.
 #[tactic(auto, using(crate::proofs::Meets::contains_rule))]
 pub fn contains<K: Ranges>(a: K, b: K) -> Truth
@@ -56,7 +73,7 @@ pub fn contains<K: Ranges>(a: K, b: K) -> Truth
 {
     match intersect(a, b) {
         None => Truth::False,
-        Some(shared) if shared.lower() == b.lower() && shared.upper() == b.upper() => Truth::True,
+        Some(shared) if has_same_ends(shared, b) => Truth::True,
         Some(_) => Truth::Unsure,
     }
 }

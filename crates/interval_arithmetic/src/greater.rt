@@ -21,7 +21,7 @@ fn moved<V: Copy, R: FnOnce(V, V) -> bool, S: FnOnce(V) -> Option<V>>(
     if own.is_some_and(|own| !reaches(own, other)) {
         return Some(own);
     }
-    Some(Some(step(other)?))
+    step(other).map(Some)
 }
 
 // The two ranges where the left one ends at or before the right one begins: an equal pair, or none.

@@ -13,9 +13,9 @@ pub enum Arithmetic {
 // The ranges of a kind, on the type of its ranges: its sorts, the order of the values, and the ends.
 // None of the questions asks anything of its caller, and equal ones get equal answers.
 pub trait Ranges: Copy {
-    type Value: Copy + Eq;
+    type Value: Copy;
 
-    type Sort: Copy + Eq;
+    type Sort: Copy + PartialEq;
 
     ghost order: { Order Self.Value Self Self.Sort };
 
@@ -42,10 +42,14 @@ pub trait Ranges: Copy {
 
     ghost orderly: { OrderLaws order };
 
-    // `==` tells equal sorts and equal values.
+    // `==` of sorts tells what is the same sort.
     ghost same_sorts: { (s t : Self.Sort) → Self.Sort.eq s t ≡ order.same s t };
 
-    ghost equal_values: { (v w : Self.Value) → Self.Value.eq v w ≡ order.equal v w };
+    final fn same_sort(s: Self::Sort, t: Self::Sort) -> bool
+        ensures { result ≡ order.same s t }
+    {
+        s == t
+    }
 }
 
 // The operations of a kind on its ranges and values, and the questions that an analysis asks of it.

@@ -72,7 +72,6 @@ joined_order a b = record {
   is = together false a.is b.is;
   sort_of = each a.sort_of b.sort_of;
   same = together false a.same b.same;
-  equal = together false a.equal b.equal;
   leq = together false a.leq b.leq;
   sort = each a.sort b.sort;
   lower = maybe a.lower b.lower;

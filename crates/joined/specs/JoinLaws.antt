@@ -59,8 +59,6 @@ pub joined_order_laws : {V W R Q S T : Type 0} {oa : Order V R S} {ob : Order W 
 joined_order_laws {S = S} {T = T} {oa = oa} {ob = ob} la lb = record {
   same_is = elim [ First s ↦ elim [ First t ↦ λ h. ap First (la.same_is s t h) | Second t ↦ λ h. absurd (false≢true h) ] | Second s ↦ elim [ First t ↦ λ h. absurd (false≢true h) | Second t ↦ λ h. ap Second (lb.same_is s t h) ] ];
   same_self = elim [ First s ↦ la.same_self s | Second s ↦ lb.same_self s ];
-  equal_is = elim [ First v ↦ elim [ First w ↦ λ h. ap First (la.equal_is v w h) | Second w ↦ λ h. absurd (false≢true h) ] | Second v ↦ elim [ First w ↦ λ h. absurd (false≢true h) | Second w ↦ λ h. ap Second (lb.equal_is v w h) ] ];
-  equal_self = elim [ First v ↦ la.equal_self v | Second v ↦ lb.equal_self v ];
   sorted = λ s. (at s).sorted;
   total = λ s. (at s).total;
   reflexive = λ s. (at s).reflexive;

@@ -65,8 +65,6 @@ impl<A: Ranges, B: Ranges> Ranges for Joined<A, B> {
 
     ghost same_sorts = { elim [ First s ↦ elim [ First t ↦ A.same_sorts s t | Second t ↦ refl ] | Second s ↦ elim [ First t ↦ refl | Second t ↦ B.same_sorts s t ] ] };
 
-    ghost equal_values = { elim [ First v ↦ elim [ First w ↦ A.equal_values v w | Second w ↦ refl ] | Second v ↦ elim [ First w ↦ refl | Second w ↦ B.equal_values v w ] ] };
-
     fn sort_of(v: Self::Value) -> Self::Sort {
         match v {
             Joined::First(v) => Joined::First(A::sort_of(v)),

@@ -1,7 +1,6 @@
 -- Whole numbers of 64 bits, as a kind. Assumes nothing.
-use Rattle.std.specs.Prelude.{ℕ, suc, ◌^◌, Bool, true, cond, ℤ, pos, ◌+ℤ◌, ◌-ℤ◌, neg_ℤ, Some, None, Option, int_le, nat_lt, unsigned_abs}
+use Rattle.std.specs.Prelude.{◌≡◌, ℕ, suc, ◌^◌, Bool, true, cond, ℤ, pos, ◌+ℤ◌, ◌-ℤ◌, neg_ℤ, Some, None, Option, int_le, nat_lt, unsigned_abs}
 use Rattle.std.specs.Int.Signed.{mag}
-use Rattle.std.specs.Ordering.{int_eq}
 use Rattle.interval_arithmetic.specs.declared.kind.Arithmetic.{Arithmetic}
 use Rattle.interval_arithmetic.specs.declared.kind.Arithmetic.TheVariants.{Plus, Minus}
 use Rattle.interval_arithmetic.specs.Model.{Order, Operations}
@@ -37,7 +36,6 @@ whole_order = record {
   is = λ s. inside;
   sort_of = λ v. Whole;
   same = λ s t. true;
-  equal = int_eq;
   leq = int_le;
   sort = λ r. Whole;
   lower = lower_of;
@@ -51,6 +49,12 @@ end_by f None b = None
 end_by f (Some a) None = None
 end_by f (Some a) (Some b) = fit64 (f a b)
 
+-- the same, where `gives` says what the rule answers
+abbrev pub EndBy : (ℤ → ℤ → Option ℤ → Type 0) → Option ℤ → Option ℤ → Option ℤ → Type 0
+EndBy gives None b r = r ≡ None
+EndBy gives (Some a) None r = r ≡ None
+EndBy gives (Some a) (Some b) r = gives a b r
+
 abbrev pub sum_end : Option ℤ → Option ℤ → Option ℤ
 sum_end = end_by (λ a b. a +ℤ b)
 
@@ -60,10 +64,6 @@ difference_end = end_by (λ a b. a -ℤ b)
 abbrev pub negated_end : Option ℤ → Option ℤ
 negated_end None = None
 negated_end (Some a) = fit64 (neg_ℤ a)
-
-abbrev pub end_of : Arithmetic → Option ℤ → Option ℤ → Option ℤ
-end_of Plus = sum_end
-end_of Minus = difference_end
 
 abbrev pub sum : WholeRange → WholeRange → WholeRange
 sum l r = range (sum_end (lower_of l) (lower_of r)) (sum_end (upper_of l) (upper_of r))

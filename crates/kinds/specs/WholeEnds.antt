@@ -1,7 +1,6 @@
 -- How a range of whole numbers reads, and the laws of its order. Assumes nothing.
 use Rattle.std.specs.Prelude.{◌≡◌, true, cond, ℤ, Some, None, Option, int_le, refl}
 use Rattle.std.proofs.Common.{ap}
-use Rattle.std.proofs.lemmas.Bool.Decides.{Decides-int_eq}
 use Rattle.interval_arithmetic.specs.Ends.{Above, Below, Within, end_is, fair}
 use Rattle.interval_arithmetic.specs.Laws.{OrderLaws, Made}
 use Rattle.interval_arithmetic.proofs.Meets.{fair_from, between, made_within}
@@ -20,8 +19,6 @@ pub order_laws : OrderLaws whole_order
 order_laws = record {
   same_is = λ s t h. only s t;
   same_self = λ s. refl;
-  equal_is = λ a b h. (Decides-int_eq a b).0 h;
-  equal_self = λ a. (Decides-int_eq a a).1 refl;
   sorted = λ s v p. only Whole s;
   total = λ s a b p q h. leq_total a b h;
   reflexive = λ s a p. leq_refl a;

@@ -1,10 +1,10 @@
 -- The laws of whole numbers as a kind. Assumes nothing.
-use Rattle.std.specs.Prelude.{◌≡◌, ℕ, suc, ◌^◌, ◌<◌, ◌≤◌, Bool, true, false, cond, ℤ, pos, ◌+ℤ◌, ◌-ℤ◌, neg_ℤ, is_some, Some, None, Option, int_le, nat_lt, unsigned_abs, refl}
+use Rattle.std.specs.Prelude.{IfSome, ◌≡◌, ℕ, suc, ◌^◌, ◌<◌, ◌≤◌, Bool, true, false, cond, ℤ, pos, ◌+ℤ◌, ◌-ℤ◌, neg_ℤ, is_some, Some, None, Option, int_le, nat_lt, unsigned_abs, refl}
 use Rattle.std.proofs.Common.{sym, ◌∙◌, ap, subst, inl, inr, arith}
 use Rattle.std.proofs.lemmas.Bool.{ltb-true, ltb-false}
 use Rattle.interval_arithmetic.specs.declared.kind.Arithmetic.{Arithmetic}
 use Rattle.interval_arithmetic.specs.declared.kind.Arithmetic.TheVariants.{Plus, Minus}
-use Rattle.interval_arithmetic.specs.Ends.{OpenOr, Above, Below, Within, One, Inside, end_is, meet}
+use Rattle.interval_arithmetic.specs.Ends.{Above, Below, Within, One, Inside, end_is, meet}
 use Rattle.interval_arithmetic.specs.Laws.{Laws, Next, Previous, Numbered, Counted}
 use Rattle.interval_arithmetic.specs.Sound.{of_two, Yields}
 use Rattle.interval_arithmetic.proofs.Pairs.{Keeps, PairInside, covers_one, covers_two, narrows_two}
@@ -29,12 +29,12 @@ negated_end_is None = refl
 negated_end_is (Some a) = fit_end inside (neg_ℤ a)
 
 -- an end made of two keeps what f keeps of numbers
-end_by_open : (f : ℤ → ℤ → ℤ) (p q r : ℤ → Type 0) → ((a b : ℤ) → p a → q b → r (f a b)) → (a b : Option ℤ) → OpenOr p a → OpenOr q b → OpenOr r (end_by f a b)
+end_by_open : (f : ℤ → ℤ → ℤ) (p q r : ℤ → Type 0) → ((a b : ℤ) → p a → q b → r (f a b)) → (a b : Option ℤ) → IfSome a p → IfSome b q → IfSome (end_by f a b) r
 end_by_open f p q r keeps None b h k = tt
 end_by_open f p q r keeps (Some a) None h k = tt
 end_by_open f p q r keeps (Some a) (Some b) h k = open_fit inside r (f a b) (keeps a b h k)
 
-negated_open : (p r : ℤ → Type 0) → ((a : ℤ) → p a → r (neg_ℤ a)) → (a : Option ℤ) → OpenOr p a → OpenOr r (negated_end a)
+negated_open : (p r : ℤ → Type 0) → ((a : ℤ) → p a → r (neg_ℤ a)) → (a : Option ℤ) → IfSome a p → IfSome (negated_end a) r
 negated_open p r keeps None h = tt
 negated_open p r keeps (Some a) h = open_fit inside r (neg_ℤ a) (keeps a h)
 

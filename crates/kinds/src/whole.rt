@@ -1,7 +1,7 @@
 // Whole numbers of 64 bits, as a kind. A result outside 64 bits is no value; an end outside them is open.
-ghost use Rattle.std.specs.Prelude.{◌≡◌, refl};
+ghost use Rattle.std.specs.Prelude.{◌≡◌};
 ghost use Rattle.std.proofs.Common.{rules};
-ghost use Rattle.kinds.specs.Whole.{end_of, lower_of, upper_of, sum, difference, negated_range, cut_left, cut_right, backward_of, make_of, whole_order, whole};
+ghost use Rattle.kinds.specs.Whole.{EndBy, lower_of, upper_of, sum, difference, negated_range, cut_left, cut_right, backward_of, make_of, whole_order, whole};
 ghost use Rattle.answers.specs.Refusals.{Refuses};
 ghost use Rattle.interval_arithmetic.specs.Ends.{try_new_of, Spans};
 ghost use Rattle.kinds.specs.WholeEnds.{order_laws};
@@ -47,14 +47,16 @@ impl WholeRange {
     }
 }
 
-// The end that the operation makes of two; open where one is open or the result is outside 64 bits.
-fn end_of(op: Arithmetic, a: Option<i64>, b: Option<i64>) -> Option<i64>
-    ensures { result ≡ end_of op a b }
+// The end that the rule makes of two; open where one is open or there is no result.
+fn end_by<F: FnOnce(i64, i64) -> Option<i64>>(
+    a: Option<i64>,
+    b: Option<i64>,
+    rule: F,
+) -> Option<i64>
+    requires { F.IsAlwaysCallable rule }
+    ensures { EndBy (F.post rule) a b result }
 {
-    match op {
-        Arithmetic::Plus => a?.checked_add(b?),
-        Arithmetic::Minus => a?.checked_sub(b?),
-    }
+    rule(a?, b?)
 }
 
 // The range that holds every sum of numbers in the two.
@@ -67,8 +69,8 @@ impl Add for WholeRange {
         let (low, high) = self.ends();
         let (other_low, other_high) = other.ends();
         WholeRange {
-            low: end_of(Arithmetic::Plus, low, other_low),
-            high: end_of(Arithmetic::Plus, high, other_high),
+            low: end_by(low, other_low, i64::checked_add),
+            high: end_by(high, other_high, i64::checked_add),
         }
     }
 }
@@ -83,8 +85,8 @@ impl Sub for WholeRange {
         let (low, high) = self.ends();
         let (other_low, other_high) = other.ends();
         WholeRange {
-            low: end_of(Arithmetic::Minus, low, other_high),
-            high: end_of(Arithmetic::Minus, high, other_low),
+            low: end_by(low, other_high, i64::checked_sub),
+            high: end_by(high, other_low, i64::checked_sub),
         }
     }
 }
@@ -156,8 +158,6 @@ impl Ranges for WholeRange {
     ghost orderly = { order_laws };
 
     ghost same_sorts = { Prim.search rules };
-
-    ghost equal_values = { λ v w. refl };
 
     fn sort_of(_v: i64) -> WholeSort {
         WholeSort::Whole

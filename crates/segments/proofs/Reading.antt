@@ -69,9 +69,6 @@ pub record Seen (text rest : List ℕ) (seen : List (List ℕ)) : Type 0 where
   pub before : (ws : List (List ℕ)) → Words rest ws → Words text (seen ++ ws)
   pub after : (vs : List (List ℕ)) → Words text vs → (ws : List (List ℕ)) × (vs ≡ seen ++ ws) × Words rest ws
 
-pub none_seen : {text rest : List ℕ} → rest ≡ text → Seen text rest []
-none_seen {text} e = subst (λ x. Seen text x []) (sym e) (record { before = λ ws h. h; after = λ vs h. (vs, refl, h) })
-
 pub one_seen : {text rest w next : List ℕ} {seen : List (List ℕ)} → Seen text rest seen → First rest w next → Seen text next (seen ++ (w ∷ []))
 one_seen {text} {rest} {w} {next} {seen} old first = record {
   before = λ ws h. rw append_assoc (old.before (w ∷ ws) (next, first, h));

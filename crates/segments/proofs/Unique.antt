@@ -68,7 +68,7 @@ words_same bs (u ∷ us) (v ∷ vs) h k =
     cc (same.0, words_same k.0 us vs (subst (λ x. Words x us) same.1 h.2) k.2)
 
 -- a list with a c in it does not lack it
-pub lacks_none : (c : ℕ) (xs ys zs : List ℕ) → LacksByte c zs → zs ≡ xs ++ (c ∷ ys) → ⊥
+lacks_none : (c : ℕ) (xs ys zs : List ℕ) → LacksByte c zs → zs ≡ xs ++ (c ∷ ys) → ⊥
 lacks_none c xs ys zs lacks e = grind (arith, lacks (length xs), get_or_at xs c ys 0 (length xs) refl, length-append xs (c ∷ ys))
 
 -- what stands before the first c is one part of the text

@@ -7,7 +7,7 @@ use crate::fault::{Expected, Fault};
 use interval_arithmetic::compare::Comparison;
 
 // A column, how its numbers are compared, and with which number.
-#[derive(Clone, Copy)]
+#[derive(Clone, Copy, Debug)]
 pub struct Filter<'a> {
     pub column: &'a str,
     pub comparison: Comparison,

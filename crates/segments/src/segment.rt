@@ -8,7 +8,7 @@ use kinds::whole::WholeRange;
 use std::str::SplitWhitespace;
 
 // A segment's name, and the bounds that its line gives of one column, if it has the column.
-#[derive(Clone, Copy)]
+#[derive(Clone, Copy, Debug)]
 pub struct Segment<'a> {
     pub name: &'a str,
     pub given: Option<WholeRange>,

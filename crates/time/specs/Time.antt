@@ -1,6 +1,5 @@
 -- Stamps, spans and steps of time, as a kind: whole numbers of nanoseconds, each of a sort. Assumes nothing.
 use Rattle.std.specs.Prelude.{Bool, true, false, cond, ◌&&◌, ℤ, pos, negsuc, is_some, Some, None, Option, ◌==◌, int_le}
-use Rattle.std.specs.Ordering.{int_eq}
 use Rattle.std.specs.Option.{option_map, unwrap_or, option_zip}
 use Rattle.interval_arithmetic.specs.declared.kind.Arithmetic.{Arithmetic}
 use Rattle.interval_arithmetic.specs.declared.kind.Arithmetic.TheVariants.{Plus, Minus}
@@ -44,9 +43,6 @@ is_time s v = same_sort s v.sort && inside v.nanoseconds
 abbrev pub at_most : Time → Time → Bool
 at_most a b = int_le a.nanoseconds b.nanoseconds
 
-abbrev pub equal : Time → Time → Bool
-equal a b = same_sort a.sort b.sort && int_eq a.nanoseconds b.nanoseconds
-
 -- the range with these ends, unless one is of another sort or they are crossed
 abbrev pub make_of : TimeSort → Option Time → Option Time → Option TimeRange
 make_of s l u = cond (fair (is_time s) at_most l u) (Some (range_of s (range (number l) (number u)))) None
@@ -56,7 +52,6 @@ time_order = record {
   is = is_time;
   sort_of = λ v. v.sort;
   same = same_sort;
-  equal = equal;
   leq = at_most;
   sort = λ r. r.sort;
   lower = λ r. option_map (of_sort r.sort) (lower_of r.nanoseconds);

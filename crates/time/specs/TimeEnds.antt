@@ -2,8 +2,6 @@
 use Rattle.std.specs.Prelude.{◌≡◌, true, cond, ℤ, Some, None, Option, int_le, refl}
 use Rattle.std.proofs.Common.{sym, ◌∙◌, ap, subst}
 use Rattle.std.specs.Option.{option_map}
-use Rattle.std.specs.Ordering.{int_eq}
-use Rattle.std.proofs.lemmas.Bool.Decides.{Decides-int_eq}
 use Rattle.std.proofs.lemmas.Bool.{and_parts, and_from, false≢true}
 use Rattle.interval_arithmetic.specs.Ends.{Within, One, Inside, end_is, uncrossed, fair}
 use Rattle.interval_arithmetic.specs.Laws.{OrderLaws, Made}
@@ -19,7 +17,7 @@ use Rattle.time.specs.declared.TimeSort.{TimeSort}
 use Rattle.time.specs.declared.TimeSort.TheVariants.{Stamp, Span, Step}
 use Rattle.time.specs.declared.Time.{Time}
 use Rattle.time.specs.declared.TimeRange.{TimeRange}
-use Rattle.time.specs.Time.{same_sort, of_sort, range_of, number, is_time, at_most, equal, time_order}
+use Rattle.time.specs.Time.{same_sort, of_sort, range_of, number, is_time, at_most, time_order}
 
 same_is : (s t : TimeSort) → same_sort s t ≡ true → s ≡ t
 same_is Stamp Stamp h = refl
@@ -55,11 +53,6 @@ sort_parts s (Some n) v h = let e : of_sort s n ≡ v = same_Some _ _ h in (ap (
 
 pub sort_from : (s : TimeSort) (n : Option ℤ) (v : Time) → s ≡ v.sort → n ≡ Some v.nanoseconds → option_map (of_sort s) n ≡ Some v
 sort_from s n v e f = ◌∙◌ {b = Some (of_sort s v.nanoseconds)} (ap (option_map (of_sort s)) f) (ap Some (value_is s v.nanoseconds v e refl))
-
-equal_is : (a b : Time) → equal a b ≡ true → a ≡ b
-equal_is a b h =
-    let p = and_parts (same_sort a.sort b.sort) (int_eq a.nanoseconds b.nanoseconds) h in
-    value_is a.sort a.nanoseconds b (same_is a.sort b.sort p.0) ((Decides-int_eq a.nanoseconds b.nanoseconds).0 p.1)
 
 -- ---- ends
 
@@ -101,8 +94,6 @@ pub order_laws : OrderLaws time_order
 order_laws = record {
   same_is = same_is;
   same_self = same_self;
-  equal_is = equal_is;
-  equal_self = λ a. and_from (same_sort a.sort a.sort) (int_eq a.nanoseconds a.nanoseconds) (same_self a.sort) ((Decides-int_eq a.nanoseconds a.nanoseconds).1 refl);
   sorted = λ s v p. sym (is_parts s v p).0;
   total = λ s a b p q h. leq_total a.nanoseconds b.nanoseconds h;
   reflexive = λ s a p. leq_refl a.nanoseconds;

@@ -95,8 +95,6 @@ impl Ranges for TimeRange {
 
     ghost same_sorts = { Prim.search rules };
 
-    ghost equal_values = { Prim.search rules };
-
     fn sort_of(v: Time) -> TimeSort {
         v.sort
     }
