@@ -9,35 +9,35 @@ use std::fmt;
 #[derive(Clone, Copy, Debug, PartialEq, Eq)]
 pub enum Ground {
     // A range's ends differ in sort, or the lower is above the upper.
-    CrossedEnds = 1,
+    CrossedEnds,
     // The filter has no record or more than 256.
-    RecordCount = 2,
+    RecordCount,
     // A child's place is not lower than its parent's, or a literal's place is outside the literals.
-    RecordPlace = 3,
+    RecordPlace,
     // A context has no boundary or more than 64.
-    BoundaryCount = 4,
+    BoundaryCount,
     // A boundary's column is outside the schema or in an earlier boundary.
-    BoundaryColumn = 5,
+    BoundaryColumn,
     // A distinct count is above 2^53.
-    DistinctCount = 6,
+    DistinctCount,
     // A boundary has no range.
-    NoRange = 7,
+    NoRange,
     // No operator is made of the record.
-    NoOperator = 8,
+    NoOperator,
     // A column is outside the schema, or its sort fits no column.
-    ColumnSort = 9,
+    ColumnSort,
     // The kind does not admit the literal.
-    LiteralRefused = 10,
+    LiteralRefused,
     // The sorts do not fit the operator.
-    SortsUnfit = 11,
+    SortsUnfit,
     // A list that the caller lends is too short.
-    ListTooShort = 12,
+    ListTooShort,
     // A number belongs to no node present.
-    NoSuchNode = 13,
+    NoSuchNode,
     // A range or target has another sort than its node.
-    OtherSort = 14,
+    OtherSort,
     // A visited disjunction is TRUE.
-    TrueDisjunction = 15,
+    TrueDisjunction,
 }
 
 // A ground, and the one position that it speaks of.
@@ -64,7 +64,7 @@ impl From<Ground> for u8 {
     ghost from_gives = { λ g n. n ≡ number g };
 
     fn from(ground: Ground) -> u8 {
-        ground as u8
+        ground as u8 + 1
     }
 }
 
