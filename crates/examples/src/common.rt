@@ -27,7 +27,7 @@ pub fn is_same<K: Ranges>(a: K, b: K) -> bool
 where
     K::Value: PartialEq,
 {
-    a.sort() == b.sort()
+    K::same_sort(a.sort(), b.sort())
         && a.lower() == b.lower()
         && a.upper() == b.upper()
         && contains(a, b) == Truth::True

@@ -79,7 +79,7 @@ pub fn compare<K: Ranges>(comparison: Comparison, left: K, right: K) -> Truth
     ensures value { result ≡ compare_of K.Ranges.order comparison left right }
     ensures holds { Compared K.Ranges.order comparison left right result }
 {
-    if left.sort() == right.sort() {
+    if K::same_sort(left.sort(), right.sort()) {
         compare_ends(comparison, left, right)
     } else {
         Truth::Unsure

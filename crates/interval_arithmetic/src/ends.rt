@@ -40,7 +40,7 @@ pub fn intersect<K: Ranges>(a: K, b: K) -> Option<K>
     ensures shares { Shares (Within K.Ranges.order) a b result }
     ensures sorts { SharesSort K.Ranges.order.sort a b result }
 {
-    if a.sort() != b.sort() {
+    if !K::same_sort(a.sort(), b.sort()) {
         return None;
     }
     let low = tighter(a.lower(), b.lower(), |a, b| K::at_most(a, b));

@@ -66,7 +66,7 @@ pub fn satisfy_greater<K: Kind>(left: K, right: K, strict: bool) -> Option<(K, K
     ensures value { result ≡ greater K.Ranges.order K.Kind.operations strict left right }
     ensures narrows { NarrowsGreater K.Ranges.order K.Kind.operations strict left right result }
 {
-    if left.sort() != right.sort() {
+    if !K::same_sort(left.sort(), right.sort()) {
         return None;
     }
     match (left.upper(), right.lower()) {

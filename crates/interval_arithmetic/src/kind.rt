@@ -15,12 +15,15 @@ pub enum Arithmetic {
 pub trait Ranges: Copy {
     type Value: Copy;
 
-    type Sort: Copy + PartialEq;
+    type Sort: Copy;
 
     ghost order: { Order Self.Value Self Self.Sort };
 
     fn sort_of(v: Self::Value) -> Self::Sort
         ensures { result ≡ order.sort_of v };
+
+    fn same_sort(s: Self::Sort, t: Self::Sort) -> bool
+        ensures { result ≡ order.same s t };
 
     // Whether `a` is at or below `b`, of one sort.
     fn at_most(a: Self::Value, b: Self::Value) -> bool
@@ -41,15 +44,6 @@ pub trait Ranges: Copy {
         ensures { result ≡ order.make s low high };
 
     ghost orderly: { OrderLaws order };
-
-    // `==` of sorts tells what is the same sort.
-    ghost same_sorts: { (s t : Self.Sort) → Self.Sort.eq s t ≡ order.same s t };
-
-    final fn same_sort(s: Self::Sort, t: Self::Sort) -> bool
-        ensures { result ≡ order.same s t }
-    {
-        s == t
-    }
 }
 
 // The operations of a kind on its ranges and values, and the questions that an analysis asks of it.

@@ -63,12 +63,18 @@ impl<A: Ranges, B: Ranges> Ranges for Joined<A, B> {
 
     ghost orderly = { joined_order_laws A.Ranges.orderly B.Ranges.orderly };
 
-    ghost same_sorts = { elim [ First s ↦ elim [ First t ↦ A.same_sorts s t | Second t ↦ refl ] | Second s ↦ elim [ First t ↦ refl | Second t ↦ B.same_sorts s t ] ] };
-
     fn sort_of(v: Self::Value) -> Self::Sort {
         match v {
             Joined::First(v) => Joined::First(A::sort_of(v)),
             Joined::Second(v) => Joined::Second(B::sort_of(v)),
+        }
+    }
+
+    fn same_sort(s: Self::Sort, t: Self::Sort) -> bool {
+        match (s, t) {
+            (Joined::First(s), Joined::First(t)) => A::same_sort(s, t),
+            (Joined::Second(s), Joined::Second(t)) => B::same_sort(s, t),
+            _ => false,
         }
     }
 

@@ -1,6 +1,5 @@
 // Whole numbers of 64 bits, as a kind. A result outside 64 bits is no value; an end outside them is open.
 ghost use Rattle.std.specs.Prelude.{◌≡◌};
-ghost use Rattle.std.proofs.Common.{rules};
 ghost use Rattle.kinds.specs.Whole.{EndBy, lower_of, upper_of, sum, difference, negated_range, cut_left, cut_right, backward_of, make_of, whole_order, whole};
 ghost use Rattle.answers.specs.Refusals.{Refuses};
 ghost use Rattle.interval_arithmetic.specs.Ends.{try_new_of, Spans};
@@ -157,10 +156,12 @@ impl Ranges for WholeRange {
 
     ghost orderly = { order_laws };
 
-    ghost same_sorts = { Prim.search rules };
-
     fn sort_of(_v: i64) -> WholeSort {
         WholeSort::Whole
+    }
+
+    fn same_sort(s: WholeSort, t: WholeSort) -> bool {
+        s == t
     }
 
     fn at_most(a: i64, b: i64) -> bool {

@@ -9,7 +9,6 @@
 #![tactic(auto)]
 
 ghost use Rattle.std.specs.Prelude.{◌≡◌, is_some};
-ghost use Rattle.std.proofs.Common.{rules};
 ghost use Rattle.answers.specs.Refusals.{Refuses};
 ghost use Rattle.interval_arithmetic.specs.Ends.{try_new_of, Spans};
 ghost use Rattle.time.specs.Time.{of_sort, make_of, bounded, at_left, at_right, arm, time_order, time};
@@ -93,10 +92,12 @@ impl Ranges for TimeRange {
 
     ghost orderly = { order_laws };
 
-    ghost same_sorts = { Prim.search rules };
-
     fn sort_of(v: Time) -> TimeSort {
         v.sort
+    }
+
+    fn same_sort(s: TimeSort, t: TimeSort) -> bool {
+        s == t
     }
 
     fn at_most(a: Time, b: Time) -> bool {
