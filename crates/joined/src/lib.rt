@@ -161,6 +161,8 @@ impl<A: Kind, B: Kind> Kind for Joined<A, B> {
         }
     }
 
+    // Joined to its caller, so that a pile of kinds asks the one that it is about at once.
+    #[inline(always)]
     fn forward(op: Arithmetic, left: Self, right: Self) -> Self {
         match (left, right) {
             (Joined::First(l), Joined::First(r)) => Joined::First(A::forward(op, l, r)),

@@ -116,6 +116,7 @@ pub struct Propagation {
 
 impl Propagation {
     // What is left of the left operand by the result and the right one.
+    #[inline(always)]
     pub fn cut_left(self) -> Option<WholeRange>
         ensures { result ≡ cut_left self.op self.parent self.left self.right }
     {
@@ -127,6 +128,7 @@ impl Propagation {
     }
 
     // What is left of the right operand by the result and the left one.
+    #[inline(always)]
     pub fn cut_right(self) -> Option<WholeRange>
         ensures { result ≡ cut_right self.op self.parent self.left self.right }
     {
@@ -248,8 +250,8 @@ impl Kind for WholeRange {
     }
 
     fn count(self) -> Option<u64> {
-        let (low, high) = self.ends();
-        let size = high?.abs_diff(low?);
+        // The same for crossed ends.
+        let size = self.high?.abs_diff(self.low?);
         if size < 1 << 53 { Some(size + 1) } else { None }
     }
 
