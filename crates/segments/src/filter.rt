@@ -42,9 +42,10 @@ fn three_words(text: &str) -> Option<(&str, &str, &str)>
     ensures { MatchOption result ((a b c : List ℕ) → Words text.now (a ∷ b ∷ c ∷ []) → ⊥) (λ x. Words text.now (x.0.now ∷ x.1.now ∷ x.2.now ∷ [])) }
 {
     let mut words = text.split_whitespace();
-    match (words.next(), words.next(), words.next(), words.next()) {
-        (Some(a), Some(b), Some(c), None) => Some((a, b, c)),
-        _ => None,
+    let three = (words.next()?, words.next()?, words.next()?);
+    match words.next() {
+        None => Some(three),
+        Some(_) => None,
     }
 }
 
