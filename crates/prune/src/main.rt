@@ -182,9 +182,19 @@ fn run<'a>(rt: &'a HostRuntime, args: &'a [String]) -> Result<ExitCode, Failure<
     }
 }
 
-// Tells why the program gives up.
+// Tells why the program gives up. Where that cannot be written, the reason is tried in its place, but for
+// a file that cannot be opened and for input and output, which are told once.
 fn give_up(rt: &HostRuntime, failure: Failure<'_>) -> ExitCode {
-    let _ = eprintln!(rt; "prune: {failure}");
+    let told = eprintln!(rt; "prune: {failure}");
+    let has_second_try = matches!(
+        failure,
+        Failure::Usage | Failure::Filter(_) | Failure::Read { .. }
+    );
+    if let Err(error) = told
+        && has_second_try
+    {
+        let _ = eprintln!(rt; "prune: {error}");
+    }
     ExitCode::FAILURE
 }
 
