@@ -34,9 +34,9 @@ enum Outcome {
 // What is wrong with a line.
 #[derive(Clone, Copy, Debug, Error)]
 enum Fault<'a> {
-    #[error("{input}: expected {expected}, came {came}")]
+    #[error("{}: expected {expected}, came {came}", input_of(.line))]
     Disagreed {
-        input: &'a str,
+        line: &'a str,
         expected: Answer,
         came: Answer,
     },
@@ -82,7 +82,7 @@ fn ask<'a>(question: Question, words: &mut Words<'_>, line: &'a str) -> Result<O
         None => Ok(Outcome::PassedOver),
         Some(came) if came == expected => Ok(Outcome::Agreed),
         Some(came) => Err(Fault::Disagreed {
-            input: input_of(line),
+            line,
             expected,
             came,
         }),
@@ -123,7 +123,7 @@ impl Tally {
     }
 
     // Counts what came of a line, and gives how many lines before it came to the same.
-    fn count(&mut self, came: Result<Outcome, Fault<'_>>) -> u64 {
+    fn count(&mut self, came: &Result<Outcome, Fault<'_>>) -> u64 {
         let count = match came {
             Ok(Outcome::NoCall) => return 0,
             Ok(Outcome::PassedOver) => &mut self.passed_over,
@@ -156,15 +156,22 @@ impl fmt::Display for Tally {
     }
 }
 
+// Prints what is wrong with a line. Apart from the loop over lines, which is to carry no message that it does not print.
+#[cold]
+#[inline(never)]
+fn tell(rt: &impl Print, number: u64, fault: Fault<'_>) -> io::Result<()> {
+    println!(rt; "line {number}: {fault}")
+}
+
 // Replays a text, prints what is wrong with its lines and how its calls went; whether every line was
 // read and no call disagreed.
 fn replay_text(rt: &impl Print, name: &str, text: &str) -> io::Result<bool> {
     let mut tally = Tally::default();
     for (number, line) in (1u64..).zip(text.lines()) {
         let came = replay_line(line);
-        let before = tally.count(came);
+        let before = tally.count(&came);
         match came {
-            Err(fault) if before < SHOWN => println!(rt; "line {number}: {fault}")?,
+            Err(fault) if before < SHOWN => tell(rt, number, fault)?,
             _ => {}
         }
     }
