@@ -12,6 +12,11 @@ fn range(low: Option<i64>, high: Option<i64>) -> WholeRange {
     WholeRange { low, high }
 }
 
+// The lower and the upper end.
+fn ends(r: WholeRange) -> (Option<i64>, Option<i64>) {
+    (r.lower(), r.upper())
+}
+
 #[test]
 fn crossed_ends_are_refused(rt: HostRuntime) {
     assert!(rt; is_refused(WholeRange::try_new(Some(3), Some(2))));
@@ -27,17 +32,17 @@ fn crossed_ends_read_as_swapped(rt: HostRuntime) {
 fn sums_and_differences(rt: HostRuntime) {
     let sum = WholeRange::forward(Arithmetic::Plus, whole(0, 10), whole(2, 2));
     assert!(rt; is_same(sum, whole(2, 12)));
+    assert_eq!(rt; ends(sum), (Some(2), Some(12)));
     let difference = WholeRange::forward(Arithmetic::Minus, whole(0, 10), whole(2, 5));
     assert!(rt; is_same(difference, whole(-5, 8)));
+    assert_eq!(rt; ends(difference), (Some(-5), Some(8)));
     // An end outside 64 bits is open.
     let high = WholeRange::forward(Arithmetic::Plus, whole(1, i64::MAX), whole(1, 1));
     assert!(rt; is_same(high, range(Some(2), None)));
-    assert!(rt;
-        is_same(
-            whole(i64::MIN, 3).arithmetic_negate(),
-            range(Some(-3), None)
-        )
-    );
+    assert_eq!(rt; ends(high), (Some(2), None));
+    let negated = whole(i64::MIN, 3).arithmetic_negate();
+    assert!(rt; is_same(negated, range(Some(-3), None)));
+    assert_eq!(rt; ends(negated), (Some(-3), None));
 }
 
 #[test]
@@ -96,6 +101,7 @@ fn intersections(rt: HostRuntime) {
     assert!(rt; intersect(whole(0, 4), whole(5, 9)).is_none());
     let shared = intersect(range(None, Some(4)), range(Some(2), None));
     assert!(rt; shared.is_some_and(|r| is_same(r, whole(2, 4))));
+    assert_eq!(rt; shared.map(ends), Some((Some(2), Some(4))));
 }
 
 #[test]
